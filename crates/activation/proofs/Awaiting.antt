@@ -1,5 +1,6 @@
 -- How many items a task waits for.
-use Rattle.std.proofs.Common.{◌≡◌, ◌≢◌, ℕ, ◌+◌, Bool, true, false, not, cond, ◌&&◌, List, [], ◌∷◌, refl, sym, ◌∙◌, ap, arith, ⊎_elim, Option, Some, None}
+use Rattle.std.proofs.Common.{◌≡◌, ◌≢◌, ℕ, ◌+◌, Bool, true, false, not, cond, ◌&&◌, List, []}
+use Rattle.std.proofs.Common.{◌∷◌, refl, sym, ◌∙◌, ap, arith, ⊎_elim, Option, Some, None}
 use Rattle.std.specs.Prelude.{count_by, ◌==◌, ◌||◌}
 use Rattle.std.specs.List.{list_all}
 use Rattle.std.proofs.lemmas.List.Sums.{sum_by-cons}
@@ -32,7 +33,8 @@ module _ (d e : ℕ → Bool) (v : ℕ) (off : d v ≡ false) (adds : AddsTask d
   other a n = adds a ∙ ap (λ (b : Bool). d a || b) (ne_eqb a v n) ∙ or-false (d a)
 
   awaited_item : (b : Bool) (from : Option ℕ) →
-      ◌≡◌ {A = ℕ} (cond (b && not (is_done_or true e from)) 1 0 + cond (is_named from v && b) 1 0) (cond (b && not (is_done_or true d from)) 1 0)
+      ◌≡◌ {A = ℕ} (cond (b && not (is_done_or true e from)) 1 0 + cond (is_named from v && b) 1 0)
+      (cond (b && not (is_done_or true d from)) 1 0)
   awaited_item false None = refl
   awaited_item true None = refl
   awaited_item false (Some a) = elim (a == v) as (λ q. ◌≡◌ {A = ℕ} (0 + cond (q && false) 1 0) 0) [ true ↦ refl | false ↦ refl ]
@@ -51,9 +53,17 @@ module _ (d e : ℕ → Bool) (v : ℕ) (off : d v ≡ false) (adds : AddsTask d
   awaited_list (x ∷ xs) =
       let ih = awaited_list xs in
       let one = awaited_item (is_input u x) x.from in
-      omega (arith, ih, one, sum_by-cons (λ x. cond (is_awaited e u x) 1 0) x xs, sum_by-cons (λ x. cond (is_edge v u x) 1 0) x xs, sum_by-cons (λ x. cond (is_awaited d u x) 1 0) x xs)
+      omega (
+        arith,
+        ih,
+        one,
+        sum_by-cons (λ x. cond (is_awaited e u x) 1 0) x xs,
+        sum_by-cons (λ x. cond (is_edge v u x) 1 0) x xs,
+        sum_by-cons (λ x. cond (is_awaited d u x) 1 0) x xs,
+      )
 
-pub awaited_later : (s : TaskSystem) (d e : ℕ → Bool) (v : ℕ) → d v ≡ false → AddsTask d v e → (u : ℕ) → awaited s e u + count_by (is_edge v u) s.items ≡ awaited s d u
+pub awaited_later : (s : TaskSystem) (d e : ℕ → Bool) (v : ℕ) → d v ≡ false
+    → AddsTask d v e → (u : ℕ) → awaited s e u + count_by (is_edge v u) s.items ≡ awaited s d u
 unfolding awaited
 awaited_later s d e v off adds u = awaited_list d e v off adds u s.items
 
@@ -63,7 +73,8 @@ ready_item true true = refl
 ready_item true false = refl
 ready_item false p = refl
 
-list_ready : (d : ℕ → Bool) (u : ℕ) (xs : List Item) → count_by (is_awaited d u) xs ≡ 0 → list_all (λ x. not (is_input u x) || is_produced d x) xs ≡ true
+list_ready : (d : ℕ → Bool) (u : ℕ) (xs : List Item) → count_by (is_awaited d u) xs ≡ 0
+    → list_all (λ x. not (is_input u x) || is_produced d x) xs ≡ true
 list_ready d u [] h = refl
 list_ready d u (x ∷ xs) h =
     let e = sum_by-cons (λ x. cond (is_awaited d u x) 1 0) x xs in
@@ -73,7 +84,8 @@ list_ready d u (x ∷ xs) h =
     rw (here, list_ready d u xs (omega (arith, e))))
     (cases_Bool (is_awaited d u x))
 
-list_awaited : (d : ℕ → Bool) (u : ℕ) (xs : List Item) → list_all (λ x. not (is_input u x) || is_produced d x) xs ≡ true → count_by (is_awaited d u) xs ≡ 0
+list_awaited : (d : ℕ → Bool) (u : ℕ) (xs : List Item)
+    → list_all (λ x. not (is_input u x) || is_produced d x) xs ≡ true → count_by (is_awaited d u) xs ≡ 0
 list_awaited d u [] h = refl
 list_awaited d u (x ∷ xs) h =
     let p = and_parts (not (is_input u x) || is_produced d x) (list_all (λ x. not (is_input u x) || is_produced d x) xs) h in

@@ -3,7 +3,8 @@ use Rattle.std.proofs.Common.{◌≡◌, ℕ, ◌≤◌, false, List, [], length
 use Rattle.std.specs.Prelude.{count_by, slice_index}
 use Rattle.limits.specs.Limits.{most_workers}
 use Rattle.mp_system.specs.Memory.{state_memory}
-use Rattle.activation.specs.Machine.{Setting, IsSetting, is_done, is_running, is_done_phase, is_running_phase, start_state, booked_memory, used_memory}
+use Rattle.activation.specs.Machine.{Setting, IsSetting, is_done, is_running, is_done_phase, is_running_phase}
+use Rattle.activation.specs.Machine.{start_state, booked_memory, used_memory}
 use Rattle.activation.specs.Safe.{IsSafe}
 use Rattle.activation.specs.Tables.{FixedTables, AreFixed, AreByPlace, AreCoreTables, is_awaited, awaited}
 use Rattle.activation.proofs.Safety.{phase_replicate, count_zero}
@@ -11,15 +12,23 @@ use Rattle.activation.proofs.Awaiting.{awaited_same}
 
 awaited_first : (c : Setting) (t : ℕ) → awaited c.system (is_done (start_state c)) t ≡ count_by (is_awaited (λ _. false) t) c.system.items
 unfolding awaited
-awaited_first c t = awaited_same c.system (is_done (start_state c)) (λ _. false) (λ u. ap is_done_phase (phase_replicate (length c.system.tasks) u)) t
+awaited_first c t =
+    awaited_same c.system (is_done (start_state c)) (λ _. false) (λ u. ap is_done_phase (phase_replicate (length c.system.tasks) u)) t
 
 pub start_tables : (c : Setting) → IsSetting c → c.workers ≤ most_workers → IsSafe c (start_state c) →
-    booked_memory c (start_state c) ≡ state_memory c.system (λ _. false) → used_memory c (start_state c) ≡ state_memory c.system (λ _. false) →
+    booked_memory c (start_state c) ≡ state_memory c.system (λ _. false)
+    → used_memory c (start_state c) ≡ state_memory c.system (λ _. false) →
     (fixed : FixedTables) → AreFixed c fixed →
     (waiting : List ℕ) → AreByPlace c.order (λ t n. n ≡ count_by (is_awaited (λ _. false) t) c.system.items) waiting →
     (memory : ℕ) → memory ≡ state_memory c.system (λ _. false) →
     AreCoreTables c (start_state c)
-    (record { fixed = fixed; waiting = waiting; running = record { listed = []; room = c.workers; count = length c.system.tasks }; booked = memory; used = memory })
+    (record {
+      fixed = fixed;
+      waiting = waiting;
+      running = record { listed = []; room = c.workers; count = length c.system.tasks };
+      booked = memory;
+      used = memory;
+    })
 start_tables c set few safe booked used fixed are waiting waits memory is =
     let idle = phase_replicate (length c.system.tasks) in
     record {

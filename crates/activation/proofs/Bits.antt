@@ -1,5 +1,6 @@
 -- Rows of bits that tell which words of another have any.
-use Rattle.std.proofs.Common.{◌≡◌, ◌≢◌, ◌∙◌, ℕ, ◌/◌, ◌<◌, inl, inr, Bool, false, List, length, set, replicate, refl, sym, ap, subst, arith, IsTrue}
+use Rattle.std.proofs.Common.{◌≡◌, ◌≢◌, ◌∙◌, ℕ, ◌/◌, ◌<◌, inl, inr, Bool, false, List, length}
+use Rattle.std.proofs.Common.{set, replicate, refl, sym, ap, subst, arith, IsTrue}
 use Rattle.std.proofs.lemmas.Bool.{cases_eq, cases_lt, true≢false}
 use Rattle.std.proofs.lemmas.List.{get_or-set_same, get_or-set_other}
 use Rattle.bit_rows.specs.Bits.{bit_in, IsFirstIn, IsSomeInWord, IsNoneInWord, IsFirstInWord}

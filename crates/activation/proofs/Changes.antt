@@ -12,7 +12,8 @@ use Rattle.activation.specs.declared.events.Phase.{Phase}
 use Rattle.activation.specs.declared.events.Phase.TheVariants.{Idle, Running, Done}
 use Rattle.activation.specs.declared.events.EventKind.{EventKind}
 use Rattle.activation.specs.declared.events.EventKind.TheVariants.{Activate, Start, Finish}
-use Rattle.activation.specs.Machine.{Setting, IsSetting, State, phase_in, with_phase, is_running_phase, is_done_phase, is_done, activated_tasks, MayActivate, MayStart, MayFinish, MayHappen, state_after}
+use Rattle.activation.specs.Machine.{Setting, IsSetting, State, phase_in, with_phase, is_running_phase, is_done_phase, is_done}
+use Rattle.activation.specs.Machine.{activated_tasks, MayActivate, MayStart, MayFinish, MayHappen, state_after}
 use Rattle.activation.specs.Safe.{IsSafe}
 use Rattle.activation.specs.Changes.{IsChange, BooksNeed, UsesNeed, FreesNeed}
 use Rattle.activation.proofs.Totals.{sum_changed_once, counted_in}
@@ -35,7 +36,8 @@ module _ (c : Setting) (set : IsSetting c) (st : State) (so : IsSafe c st) (t : 
       (λ y. y)
       (λ n. let front = counted_in (activated_tasks c st) t (so.activated t n) in
       let more = sum_by_more (λ (x : ℕ). cond (x == t) 1 0) c.order st.activated 0 h.left in
-      let here : ◌≡◌ {A = ℕ} (cond (get_or c.order st.activated 0 == t) 1 0) 1 = ap (λ (b : Bool). cond b 1 0) (eq-eqb (get_or c.order st.activated 0) t h.next) in
+      let here : ◌≡◌ {A = ℕ} (cond (get_or c.order st.activated 0 == t) 1 0) 1 =
+      ap (λ (b : Bool). cond b 1 0) (eq-eqb (get_or c.order st.activated 0) t h.next) in
       absurd (omega (arith, front, more, here, counted_once c.system c.order (each set) (st.activated + 1) t)))
       (idle_or_not (phase_in st.phases t))
 
@@ -54,7 +56,8 @@ module _ (c : Setting) (set : IsSetting c) (st : State) (so : IsSafe c st) (t : 
 
   -- a sum over the order of a number of each task's phase, when one task's phase changes
   pub order_sum : (n : Phase → ℕ → ℕ) (q : Phase) → stands_in (activated_tasks c st) t ≡ true →
-      sum_by (λ x. n (phase_in (with_phase st.phases t q) x) x) c.order + n (phase_in st.phases t) t ≡ sum_by (λ x. n (phase_in st.phases x) x) c.order + n q t
+      sum_by (λ x. n (phase_in (with_phase st.phases t q) x) x) c.order + n (phase_in st.phases t) t
+      ≡ sum_by (λ x. n (phase_in st.phases x) x) c.order + n q t
   order_sum n q front =
       let f : ℕ → ℕ = λ x. n (phase_in (with_phase st.phases t q) x) x in
       let g : ℕ → ℕ = λ x. n (phase_in st.phases x) x in
@@ -65,11 +68,13 @@ module _ (c : Setting) (set : IsSetting c) (st : State) (so : IsSafe c st) (t : 
 
   -- the same over the activated tasks
   front_sum : (n : Phase → ℕ → ℕ) (q : Phase) → stands_in (activated_tasks c st) t ≡ true →
-      sum_by (λ x. n (phase_in (with_phase st.phases t q) x) x) (activated_tasks c st) + n (phase_in st.phases t) t ≡ sum_by (λ x. n (phase_in st.phases x) x) (activated_tasks c st) + n q t
+      sum_by (λ x. n (phase_in (with_phase st.phases t q) x) x) (activated_tasks c st) + n (phase_in st.phases t) t
+      ≡ sum_by (λ x. n (phase_in st.phases x) x) (activated_tasks c st) + n q t
   front_sum n q front =
       let f : ℕ → ℕ = λ x. n (phase_in (with_phase st.phases t q) x) x in
       let g : ℕ → ℕ = λ x. n (phase_in st.phases x) x in
-      let once : count_by (λ x. x == t) (activated_tasks c st) ≡ 1 = omega (arith, counted_once c.system c.order (each set) st.activated t, counted_in (activated_tasks c st) t front) in
+      let once : count_by (λ x. x == t) (activated_tasks c st) ≡ 1 =
+      omega (arith, counted_once c.system c.order (each set) st.activated t, counted_in (activated_tasks c st) t front) in
       let e = sum_changed_once f g t (λ x m. ap (λ (p : Phase). n p x) (with_phase_other st.phases t x q m)) (activated_tasks c st) once in
       let ft : f t ≡ n q t = ap (λ (p : Phase). n p t) (is_changed front q) in
       omega (arith, e, ft)
@@ -81,7 +86,8 @@ module _ (c : Setting) (set : IsSetting c) (st : State) (so : IsSafe c st) (t : 
   pub same_done : MayStart c st t → (x : ℕ) → is_done (state_after st Start t) x ≡ is_done st x
   same_done h x =
       ⊎_elim
-      (λ e. ap (λ y. is_done (state_after st Start t) y) e ∙ ap is_done_phase (is_changed h.activated Running) ∙ sym (ap is_done_phase h.idle) ∙ sym (ap (λ y. is_done st y) e))
+      (λ e. ap (λ y. is_done (state_after st Start t) y) e ∙ ap is_done_phase (is_changed h.activated Running)
+      ∙ sym (ap is_done_phase h.idle) ∙ sym (ap (λ y. is_done st y) e))
       (λ n. ap is_done_phase (with_phase_other st.phases t x Running n))
       (cases_eq x t)
 
@@ -90,7 +96,8 @@ module _ (c : Setting) (set : IsSetting c) (st : State) (so : IsSafe c st) (t : 
   finish_adds h x =
       ⊎_elim
       (λ e. let e' : (x == t) ≡ true = eq-eqb x t e in
-      let on : is_done (state_after st Finish t) x ≡ true = ap (λ y. is_done (state_after st Finish t) y) e ∙ ap is_done_phase (is_changed (finishes_front h) Done) in
+      let on : is_done (state_after st Finish t) x ≡ true =
+      ap (λ y. is_done (state_after st Finish t) y) e ∙ ap is_done_phase (is_changed (finishes_front h) Done) in
       let off : is_done st x ≡ false = ap (λ y. is_done st y) e ∙ ap is_done_phase h.running in
       rw (on, off, e'))
       (λ n. let e' : (x == t) ≡ false = ne_eqb x t n in
@@ -112,11 +119,15 @@ module _ (c : Setting) (set : IsSetting c) (st : State) (so : IsSafe c st) (t : 
     start_change : MayStart c st t → UsesNeed c st t
     start_change h =
         let here = state_same c.system (is_done (state_after st Start t)) (is_done st) (same_done h) in
-        let held = sum_same (λ x. cond (is_done (state_after st Start t) x) 0 (need_of c.system x)) (λ x. cond (is_done st x) 0 (need_of c.system x)) (λ x. ap (λ (b : Bool). cond b 0 (need_of c.system x)) (same_done h x)) (activated_tasks c st) in
+        let held = sum_same (λ x. cond (is_done (state_after st Start t) x) 0 (need_of c.system x))
+        (λ x. cond (is_done st x) 0 (need_of c.system x))
+        (λ x. ap (λ (b : Bool). cond b 0 (need_of c.system x)) (same_done h x)) (activated_tasks c st) in
         let sums = order_sum (λ p x. cond (is_running_phase p) (need_of c.system x) 0) Running h.activated in
-        let was : cond (is_running_phase (phase_in st.phases t)) (need_of c.system t) 0 ≡ 0 = ap (λ (p : Phase). cond (is_running_phase p) (need_of c.system t) 0) h.idle in
+        let was : cond (is_running_phase (phase_in st.phases t)) (need_of c.system t) 0 ≡ 0 =
+        ap (λ (p : Phase). cond (is_running_phase p) (need_of c.system t) 0) h.idle in
         let counts = order_sum (λ p x. cond (is_running_phase p) 1 0) Running h.activated in
-        let none : ◌≡◌ {A = ℕ} (cond (is_running_phase (phase_in st.phases t)) 1 0) 0 = ap (λ (p : Phase). cond (is_running_phase p) 1 0) h.idle in
+        let none : ◌≡◌ {A = ℕ} (cond (is_running_phase (phase_in st.phases t)) 1 0) 0 =
+        ap (λ (p : Phase). cond (is_running_phase p) 1 0) h.idle in
         record {
           booked = omega (arith, here, held);
           used = omega (arith, here, sums, was);
@@ -128,18 +139,22 @@ module _ (c : Setting) (set : IsSetting c) (st : State) (so : IsSafe c st) (t : 
     finish_change h =
         let here = state_step c.system (is_done st) (is_done (state_after st Finish t)) t (can_run h) (finish_adds h) in
         let front = front_sum (λ p x. cond (is_done_phase p) 0 (need_of c.system x)) Done (finishes_front h) in
-        let held : cond (is_done_phase (phase_in st.phases t)) 0 (need_of c.system t) ≡ need_of c.system t = ap (λ (p : Phase). cond (is_done_phase p) 0 (need_of c.system t)) h.running in
+        let held : cond (is_done_phase (phase_in st.phases t)) 0 (need_of c.system t) ≡ need_of c.system t =
+        ap (λ (p : Phase). cond (is_done_phase p) 0 (need_of c.system t)) h.running in
         let sums = order_sum (λ p x. cond (is_running_phase p) (need_of c.system x) 0) Done (finishes_front h) in
-        let was : cond (is_running_phase (phase_in st.phases t)) (need_of c.system t) 0 ≡ need_of c.system t = ap (λ (p : Phase). cond (is_running_phase p) (need_of c.system t) 0) h.running in
+        let was : cond (is_running_phase (phase_in st.phases t)) (need_of c.system t) 0 ≡ need_of c.system t =
+        ap (λ (p : Phase). cond (is_running_phase p) (need_of c.system t) 0) h.running in
         let counts = order_sum (λ p x. cond (is_running_phase p) 1 0) Done (finishes_front h) in
-        let one : ◌≡◌ {A = ℕ} (cond (is_running_phase (phase_in st.phases t)) 1 0) 1 = ap (λ (p : Phase). cond (is_running_phase p) 1 0) h.running in
+        let one : ◌≡◌ {A = ℕ} (cond (is_running_phase (phase_in st.phases t)) 1 0) 1 =
+        ap (λ (p : Phase). cond (is_running_phase p) 1 0) h.running in
         record {
           booked = omega (arith, here, front, held);
           used = omega (arith, here, sums, was);
           running = omega (arith, counts, one);
         }
 
-pub event_change : StateSame → StateStep → (c : Setting) → IsSetting c → (st : State) → IsSafe c st → (kind : EventKind) (t : ℕ) → MayHappen c st kind t → IsChange c st kind t
+pub event_change : StateSame → StateStep → (c : Setting) → IsSetting c → (st : State)
+    → IsSafe c st → (kind : EventKind) (t : ℕ) → MayHappen c st kind t → IsChange c st kind t
 event_change same step c set st so Activate t h = activate_change c set st so t h
 event_change same step c set st so Start t h = start_change c set st so t same h
 event_change same step c set st so Finish t h = finish_change c set st so t step h

@@ -1,5 +1,6 @@
 -- How many events a run has, and how often each comes.
-use Rattle.std.proofs.Common.{◌≡◌, ℕ, ◌+◌, ◌*◌, ◌≤◌, Bool, true, false, cond, ◌&&◌, List, [], ◌∷◌, length, get_or, refl, sym, ◌∙◌, ap, arith, ⊎_elim}
+use Rattle.std.proofs.Common.{◌≡◌, ℕ, ◌+◌, ◌*◌, ◌≤◌, Bool, true, false, cond, ◌&&◌, List}
+use Rattle.std.proofs.Common.{[], ◌∷◌, length, get_or, refl, sym, ◌∙◌, ap, arith, ⊎_elim}
 use Rattle.std.specs.Prelude.{sum_by, count_by, ◌==◌}
 use Rattle.std.proofs.lemmas.List.Sums.{sum_by-cons, sum_by_more, sum_by-le}
 use Rattle.std.proofs.lemmas.Bool.{cases_eq, eq-eqb, ne_eqb}
@@ -9,7 +10,8 @@ use Rattle.activation.specs.declared.events.EventKind.{EventKind}
 use Rattle.activation.specs.declared.events.EventKind.TheVariants.{Activate, Start, Finish}
 use Rattle.activation.specs.declared.events.Event.{Event}
 use Rattle.mp_system.specs.Memory.{stands_in}
-use Rattle.activation.specs.Machine.{Setting, IsSetting, State, phase_in, with_phase, activated_tasks, start_state, MayHappen, state_after, AllDone}
+use Rattle.activation.specs.Machine.{Setting, IsSetting, State, phase_in, with_phase, activated_tasks}
+use Rattle.activation.specs.Machine.{start_state, MayHappen, state_after, AllDone}
 use Rattle.activation.specs.Runs.{AreLegal, state_after_all, is_kind, times_of, AtMostOnce, EachOnce}
 use Rattle.activation.specs.Safe.{IsSafe}
 use Rattle.activation.specs.Run.{steps_of, event_count}
@@ -27,33 +29,50 @@ steps_of_le Running = omega arith
 steps_of_le Done = omega arith
 
 -- one task's phase goes up by one
-count_up : (c : Setting) → IsSetting c → (st : State) → IsSafe c st → (t : ℕ) (p q : Phase) → phase_in st.phases t ≡ p → steps_of q ≡ steps_of p + 1 → stands_in (activated_tasks c st) t ≡ true →
+count_up : (c : Setting) → IsSetting c → (st : State) → IsSafe c st → (t : ℕ) (p q : Phase)
+    → phase_in st.phases t ≡ p → steps_of q ≡ steps_of p + 1 → stands_in (activated_tasks c st) t ≡ true →
     sum_by (λ x. steps_of (phase_in (with_phase st.phases t q) x)) c.order ≡ sum_by (λ x. steps_of (phase_in st.phases x)) c.order + 1
 count_up c set st so t p q was up front =
     let e = order_sum c set st so t (λ p x. steps_of p) q front in
     let was' : steps_of (phase_in st.phases t) ≡ steps_of p = ap steps_of was in
     omega (arith, e, was', up)
 
-pub count_step : (c : Setting) → IsSetting c → (st : State) → IsSafe c st → (kind : EventKind) (t : ℕ) → MayHappen c st kind t → event_count c (state_after st kind t) ≡ event_count c st + 1
+pub count_step : (c : Setting) → IsSetting c → (st : State) → IsSafe c st → (kind : EventKind) (t : ℕ)
+    → MayHappen c st kind t → event_count c (state_after st kind t) ≡ event_count c st + 1
 unfolding event_count steps_of
 count_step c set st so Activate t h = omega arith
 count_step c set st so Start t h = omega (arith, count_up c set st so t Idle Running h.idle refl h.activated)
 count_step c set st so Finish t h = omega (arith, count_up c set st so t Running Done h.running refl (so.activated t (busy h.running)))
 
-count_run : Kept → (c : Setting) → IsSetting c → (st : State) → IsSafe c st → (events : List Event) → AreLegal c st events → event_count c (state_after_all st events) ≡ event_count c st + length events
+count_run : Kept → (c : Setting) → IsSetting c → (st : State) → IsSafe c st → (events : List Event)
+    → AreLegal c st events → event_count c (state_after_all st events) ≡ event_count c st + length events
 count_run kept c set st so [] h = omega arith
 count_run kept c set st so (e ∷ es) h =
-    omega (arith, count_step c set st so e.kind e.task h.0, count_run kept c set (state_after st e.kind e.task) (kept c set st so e.kind e.task h.0) es h.1)
+    omega (
+      arith,
+      count_step c set st so e.kind e.task h.0,
+      count_run kept c set (state_after st e.kind e.task) (kept c set st so e.kind e.task h.0) es h.1,
+    )
 
 pub count_le : Long → (c : Setting) → IsSetting c → (st : State) → IsSafe c st → event_count c st ≤ 3 * length c.system.tasks
 unfolding event_count
 count_le long c set st so =
-    omega (arith, so.prefix, long c.system c.order set.traversal, sum_by-le (λ t. steps_of (phase_in st.phases t)) 2 c.order (λ k d h. steps_of_le (phase_in st.phases (get_or c.order k d))))
+    omega (
+      arith,
+      so.prefix,
+      long c.system c.order set.traversal,
+      sum_by-le (λ t. steps_of (phase_in st.phases t)) 2 c.order (λ k d h. steps_of_le (phase_in st.phases (get_or c.order k d))),
+    )
 
-pub run_is_short : Long → StartSafe → Kept → (c : Setting) → IsSetting c → (events : List Event) → AreLegal c (start_state c) events → length events ≤ 3 * length c.system.tasks
+pub run_is_short : Long → StartSafe → Kept → (c : Setting) → IsSetting c → (events : List Event)
+    → AreLegal c (start_state c) events → length events ≤ 3 * length c.system.tasks
 run_is_short long start kept c set events h =
     let so = start c set in
-    omega (arith, count_run kept c set (start_state c) so events h, count_le long c set (state_after_all (start_state c) events) (run_safe kept c set (start_state c) so events h))
+    omega (
+      arith,
+      count_run kept c set (start_state c) so events h,
+      count_le long c set (state_after_all (start_state c) events) (run_safe kept c set (start_state c) so events h),
+    )
 
 -- how often an event of this kind has come for the task
 begun_times : Phase → ℕ
@@ -92,7 +111,8 @@ adds : EventKind → ℕ → EventKind → ℕ → ℕ
 adds kind t k u = cond (is_kind kind k && (u == t)) 1 0
 
 -- a number of a task's phase, when one task's phase changes
-times_step : (n : Phase → ℕ) (d : ℕ) (ps : List Phase) (u t : ℕ) (p q : Phase) → phase_in ps u ≡ p → phase_in (with_phase ps u q) u ≡ q → n q ≡ n p + d → n (phase_in (with_phase ps u q) t) ≡ n (phase_in ps t) + cond (u == t) d 0
+times_step : (n : Phase → ℕ) (d : ℕ) (ps : List Phase) (u t : ℕ) (p q : Phase) → phase_in ps u ≡ p
+    → phase_in (with_phase ps u q) u ≡ q → n q ≡ n p + d → n (phase_in (with_phase ps u q) t) ≡ n (phase_in ps t) + cond (u == t) d 0
 times_step n d ps u t p q was is up =
     ⊎_elim
     (λ e. let a : phase_in (with_phase ps u q) t ≡ q = ap (phase_in (with_phase ps u q)) (sym e) ∙ is in
@@ -106,7 +126,8 @@ no_times true = refl
 no_times false = refl
 
 module _ (c : Setting) (set : IsSetting c) (st : State) (so : IsSafe c st) (u : ℕ) where
-  seen_step : (k : EventKind) → MayHappen c st k u → (kind : EventKind) (t : ℕ) → seen c (state_after st k u) kind t ≡ seen c st kind t + adds kind t k u
+  seen_step : (k : EventKind) → MayHappen c st k u → (kind : EventKind) (t : ℕ)
+      → seen c (state_after st k u) kind t ≡ seen c st kind t + adds kind t k u
   unfolding seen adds begun_times ended_times
   seen_step Activate h Activate t =
       let more = sum_by_more (λ (x : ℕ). cond (x == t) 1 0) c.order st.activated 0 h.left in
@@ -115,20 +136,38 @@ module _ (c : Setting) (set : IsSetting c) (st : State) (so : IsSafe c st) (u : 
   seen_step Activate h Finish t = omega arith
   seen_step Start h Activate t = omega arith
   seen_step Start h Start t = times_step begun_times 1 st.phases u t Idle Running h.idle (is_changed c set st so u h.activated Running) refl
-  seen_step Start h Finish t = omega (arith, times_step ended_times 0 st.phases u t Idle Running h.idle (is_changed c set st so u h.activated Running) refl, no_times (u == t))
+  seen_step Start h Finish t = omega (
+    arith,
+    times_step ended_times 0 st.phases u t Idle Running h.idle (is_changed c set st so u h.activated Running) refl,
+    no_times (u == t),
+  )
   seen_step Finish h Activate t = omega arith
-  seen_step Finish h Start t = omega (arith, times_step begun_times 0 st.phases u t Running Done h.running (is_changed c set st so u (finishes_front c set st so u h) Done) refl, no_times (u == t))
-  seen_step Finish h Finish t = times_step ended_times 1 st.phases u t Running Done h.running (is_changed c set st so u (finishes_front c set st so u h) Done) refl
+  seen_step Finish h Start t = omega (
+    arith,
+    times_step begun_times 0 st.phases u t Running Done h.running
+        (is_changed c set st so u (finishes_front c set st so u h) Done) refl,
+    no_times (u == t),
+  )
+  seen_step Finish h Finish t =
+      times_step ended_times 1 st.phases u t Running Done h.running (is_changed c set st so u (finishes_front c set st so u h) Done) refl
 
-seen_run : Kept → (c : Setting) → IsSetting c → (st : State) → IsSafe c st → (events : List Event) → AreLegal c st events → (kind : EventKind) (t : ℕ) → seen c (state_after_all st events) kind t ≡ seen c st kind t + times_of kind t events
+seen_run : Kept → (c : Setting) → IsSetting c → (st : State) → IsSafe c st → (events : List Event) → AreLegal c st events
+    → (kind : EventKind) (t : ℕ) → seen c (state_after_all st events) kind t ≡ seen c st kind t + times_of kind t events
 seen_run kept c set st so [] h kind t = omega arith
 seen_run kept c set st so (e ∷ es) h kind t =
     let one = sum_by-cons (λ (x : Event). cond (is_kind kind x.kind && (x.task == t)) 1 0) e es in
     let here : adds kind t e.kind e.task ≡ cond (is_kind kind e.kind && (e.task == t)) 1 0 = unfold adds in refl in
-    omega (arith, one, here, seen_step c set st so e.task e.kind h.0 kind t, seen_run kept c set (state_after st e.kind e.task) (kept c set st so e.kind e.task h.0) es h.1 kind t)
+    omega (
+      arith,
+      one,
+      here,
+      seen_step c set st so e.task e.kind h.0 kind t,
+      seen_run kept c set (state_after st e.kind e.task) (kept c set st so e.kind e.task h.0) es h.1 kind t,
+    )
 
 -- each event of a task comes once in a run after which it is done
-seen_all : (c : Setting) → IsSetting c → (st : State) → IsSafe c st → (kind : EventKind) (t : ℕ) → phase_in st.phases t ≡ Done → seen c st kind t ≡ 1
+seen_all : (c : Setting) → IsSetting c → (st : State) → IsSafe c st
+    → (kind : EventKind) (t : ℕ) → phase_in st.phases t ≡ Done → seen c st kind t ≡ 1
 unfolding seen begun_times ended_times
 seen_all c set st so Activate t d =
     let front = so.activated t (λ z. let k : Done ≡ Idle = sym d ∙ z in cc) in
@@ -142,10 +181,15 @@ seen_start c Activate t = refl
 seen_start c Start t = ap begun_times (phase_replicate (length c.system.tasks) t)
 seen_start c Finish t = ap ended_times (phase_replicate (length c.system.tasks) t)
 
-module _ (start : StartSafe) (kept : Kept) (c : Setting) (set : IsSetting c) (events : List Event) (h : AreLegal c (start_state c) events) where
+module _ (start : StartSafe) (kept : Kept) (c : Setting) (set : IsSetting c)
+    (events : List Event) (h : AreLegal c (start_state c) events) where
   pub run_at_most_once : AtMostOnce events
   run_at_most_once kind t =
-      omega (arith, seen_run kept c set (start_state c) (start c set) events h kind t, seen_le c set (state_after_all (start_state c) events) kind t)
+      omega (
+        arith,
+        seen_run kept c set (start_state c) (start c set) events h kind t,
+        seen_le c set (state_after_all (start_state c) events) kind t,
+      )
 
   pub run_each_once : AllDone c (state_after_all (start_state c) events) → EachOnce c events
   run_each_once done kind t is =
@@ -154,9 +198,14 @@ module _ (start : StartSafe) (kept : Kept) (c : Setting) (set : IsSetting c) (ev
         arith,
         seen_run kept c set (start_state c) (start c set) events h kind t,
         seen_start c kind t,
-        seen_all c set st (run_safe kept c set (start_state c) (start c set) events h) kind t (done_from (phase_in st.phases t) (done t is)),
+        seen_all c set st (run_safe kept c set (start_state c) (start c set) events h) kind t
+            (done_from (phase_in st.phases t) (done t is)),
       )
 
 pub count_start : (c : Setting) → event_count c (start_state c) ≡ 0
 unfolding event_count steps_of
-count_start c = omega (arith, sum_zero (λ t. steps_of (phase_in (start_state c).phases t)) c.order (λ x h. ap steps_of (phase_replicate (length c.system.tasks) x)))
+count_start c = omega (
+  arith,
+  sum_zero (λ t. steps_of (phase_in (start_state c).phases t)) c.order
+      (λ x h. ap steps_of (phase_replicate (length c.system.tasks) x)),
+)

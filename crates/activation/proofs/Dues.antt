@@ -1,5 +1,6 @@
 -- The dues of a clock, and which of them is the first.
-use Rattle.std.proofs.Common.{◌≡◌, ◌≢◌, ℕ, Bool, zero, suc, ◌<◌, ◌≤◌, inl, inr, false, cond, List, [], ◌∷◌, length, get_or, IsPermutation, refl, sym, ap, ◌∙◌, arith}
+use Rattle.std.proofs.Common.{◌≡◌, ◌≢◌, ℕ, Bool, zero, suc, ◌<◌, ◌≤◌, inl, inr, false, cond, List}
+use Rattle.std.proofs.Common.{[], ◌∷◌, length, get_or, IsPermutation, refl, sym, ap, ◌∙◌, arith}
 use Rattle.std.specs.List.{Contains, sum_by}
 use Rattle.std.specs.Prelude.{Result, Ok, Err, OnOk}
 use Rattle.std.specs.Result.{IsOk}
@@ -62,10 +63,13 @@ place_none k d n = ap bit (ne_eqb d.place k n)
 
 pub place_at : (k : ℕ) (dues : List Due) (i : ℕ) (d : Due) → i < length dues → (get_or dues i d).place ≡ k → 0 < sum_by (has_place k) dues
 place_at k [] i d lt e = absurd (omega arith)
-place_at k (x ∷ xs) zero d lt e = let s = sum_by-cons (has_place k) x xs in let one : has_place k x ≡ 1 = ap (λ b. cond b 1 0) (eq-eqb x.place k e) in omega arith
+place_at k (x ∷ xs) zero d lt e = let s = sum_by-cons (has_place k) x xs in
+    let one : has_place k x ≡ 1 = ap (λ b. cond b 1 0) (eq-eqb x.place k e) in
+    omega arith
 place_at k (x ∷ xs) (suc i) d lt e = let s = sum_by-cons (has_place k) x xs in let h = place_at k xs i d (omega arith) e in omega arith
 
-pub found : (k : ℕ) (dues : List Due) (d : Due) → 0 < sum_by (has_place k) dues → (i : ℕ) × (i < length dues) × ((get_or dues i d).place ≡ k)
+pub found : (k : ℕ) (dues : List Due) (d : Due) → 0 < sum_by (has_place k) dues
+    → (i : ℕ) × (i < length dues) × ((get_or dues i d).place ≡ k)
 found k [] d some = absurd (omega arith)
 found k (x ∷ xs) d some = elim (cases_eq x.place k) [
   | inl e ↦ (0, omega arith, e)

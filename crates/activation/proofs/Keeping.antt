@@ -1,5 +1,6 @@
 -- The tables of a machine before and after each event.
-use Rattle.std.proofs.Common.{◌≡◌, ℕ, ◌+◌, ◌-◌, ◌<◌, ◌≤◌, All, true, false, not, ◌&&◌, List, [], ◌∷◌, ◌++◌, length, get_or, set, sym, subst, ◌∙◌, ap, arith, ⊎_elim, length-append}
+use Rattle.std.proofs.Common.{◌≡◌, ℕ, ◌+◌, ◌-◌, ◌<◌, ◌≤◌, All, true, false, not, ◌&&◌, List, [], ◌∷◌, ◌++◌}
+use Rattle.std.proofs.Common.{length, get_or, set, sym, subst, ◌∙◌, ap, arith, ⊎_elim, length-append}
 use Rattle.std.specs.Prelude.{count_by, ◌==◌, ◌||◌, nat_lt, slice_index}
 use Rattle.std.proofs.lemmas.List.{get_or_read, length-take, get_or-take}
 use Rattle.std.proofs.lemmas.List.Elements.{All-get_or}
@@ -13,7 +14,8 @@ use Rattle.activation.specs.declared.events.Phase.{Phase}
 use Rattle.activation.specs.declared.events.Phase.TheVariants.{Running, Done}
 use Rattle.activation.specs.declared.events.EventKind.TheVariants.{Activate, Start, Finish}
 use Rattle.activation.specs.Running.{RunningValue}
-use Rattle.activation.specs.Machine.{Setting, State, phase_in, is_idle_phase, is_running_phase, is_done_phase, is_done, is_running, activated_tasks, MayActivate, MayStart, MayFinish, state_after}
+use Rattle.activation.specs.Machine.{Setting, State, phase_in, is_idle_phase, is_running_phase, is_done_phase, is_done}
+use Rattle.activation.specs.Machine.{is_running, activated_tasks, MayActivate, MayStart, MayFinish, state_after}
 use Rattle.activation.specs.Safe.{IsSafe}
 use Rattle.activation.specs.Schedule.{task_entry}
 use Rattle.activation.specs.Changes.{BooksNeed, UsesNeed, FreesNeed}
@@ -44,7 +46,8 @@ module _ {c : Setting} {st : State} {x : CoreTables} (a : AreCoreTables c st x) 
 
   -- an activated task is one of the system
   pub front_is_task : (task : ℕ) → stands_in (activated_tasks c st) task ≡ true → IsTask c.system task
-  front_is_task task h = task_in_order c.system c.order (each a.setting) task (in_front c.system c.order (each a.setting) st.activated task h)
+  front_is_task task h =
+      task_in_order c.system c.order (each a.setting) task (in_front c.system c.order (each a.setting) st.activated task h)
 
   pub start_is_task : (task : ℕ) → MayStart c st task → IsTask c.system task
   start_is_task task h = front_is_task task h.activated
@@ -53,7 +56,8 @@ module _ {c : Setting} {st : State} {x : CoreTables} (a : AreCoreTables c st x) 
   finish_is_task task h = front_is_task task (finishes_front c a.setting st a.safe task h)
 
   -- where a task is left to activate
-  module _ {task n : ℕ} (left : st.activated < length c.order) (next : slice_index c.order st.activated ≡ task) (cost : n ≡ need_of c.system task) where
+  module _ {task n : ℕ} (left : st.activated < length c.order)
+      (next : slice_index c.order st.activated ≡ task) (cost : n ≡ need_of c.system task) where
     pub may_activate : n ≤ c.bound - x.booked → MayActivate c st task
     may_activate fits = record { left = left; next = next; fits = omega (arith, cost, a.booked_is, a.safe.booked) }
 
@@ -79,29 +83,35 @@ module _ {c : Setting} {st : State} {x : CoreTables} (a : AreCoreTables c st x) 
     }
 
   -- the place of a task tells whether it is activated
-  place_is : (task : ℕ) → IsTask c.system task → (k : ℕ) × (k < length c.order) × (get_or c.order k 0 ≡ task) × (task_entry x.fixed.places task ≡ k)
+  place_is : (task : ℕ) → IsTask c.system task
+      → (k : ℕ) × (k < length c.order) × (get_or c.order k 0 ≡ task) × (task_entry x.fixed.places task ≡ k)
   place_is task is =
       let p = place_in c.order task (task_has_place c.system c.order (each a.setting) task is) in
       (p.0, p.1, p.2, ap (task_entry x.fixed.places) (sym p.2) ∙ a.fixed.places_are p.0 p.1)
 
-  pub activated_by_place : (task : ℕ) → IsTask c.system task → task_entry x.fixed.places task < st.activated → stands_in (activated_tasks c st) task ≡ true
+  pub activated_by_place : (task : ℕ) → IsTask c.system task
+      → task_entry x.fixed.places task < st.activated → stands_in (activated_tasks c st) task ≡ true
   activated_by_place task is lt =
       let p = place_is task is in
       let w : p.0 < st.activated = omega (arith, p.3, lt) in
       let e = get_or-take st.activated c.order p.0 0 w in
-      ap (λ t. stands_in (activated_tasks c st) t) (sym (e ∙ p.2)) ∙ in_at (activated_tasks c st) p.0 (omega (arith, length-take st.activated c.order, p.1))
+      ap (λ t. stands_in (activated_tasks c st) t) (sym (e ∙ p.2))
+      ∙ in_at (activated_tasks c st) p.0 (omega (arith, length-take st.activated c.order, p.1))
 
-  pub place_of_activated : (task : ℕ) → IsTask c.system task → stands_in (activated_tasks c st) task ≡ true → task_entry x.fixed.places task < st.activated
+  pub place_of_activated : (task : ℕ) → IsTask c.system task
+      → stands_in (activated_tasks c st) task ≡ true → task_entry x.fixed.places task < st.activated
   place_of_activated task is front =
       let p = place_in (activated_tasks c st) task front in
       let len = length-take st.activated c.order in
       let w : p.0 < st.activated = omega (arith, len, p.1) in
       let e = get_or-take st.activated c.order p.0 0 w in
-      let at : task_entry x.fixed.places task ≡ p.0 = ap (task_entry x.fixed.places) (sym (sym e ∙ p.2)) ∙ a.fixed.places_are p.0 (omega (arith, len, p.1)) in
+      let at : task_entry x.fixed.places task ≡ p.0 =
+      ap (task_entry x.fixed.places) (sym (sym e ∙ p.2)) ∙ a.fixed.places_are p.0 (omega (arith, len, p.1)) in
       omega (arith, at, w)
 
   -- what is read of the places
-  pub place_found : (task p : ℕ) → IsTask c.system task → p ≡ get_or x.fixed.places (task - 1) p → (p < length c.order) × (slice_index c.order p ≡ task)
+  pub place_found : (task p : ℕ) → IsTask c.system task → p ≡ get_or x.fixed.places (task - 1) p
+      → (p < length c.order) × (slice_index c.order p ≡ task)
   place_found task p is e =
       let q = place_is task is in
       let same : p ≡ q.0 = number_read x.fixed.places task p is.0 (omega (arith, is.1, a.fixed.places_length)) e ∙ q.3 in
@@ -112,14 +122,17 @@ module _ {c : Setting} {st : State} {x : CoreTables} (a : AreCoreTables c st x) 
     is : IsTask c.system task
     is = subst (IsTask c.system) here (task_here k w)
 
-    pub number_here : {n : ℕ} {tells : ℕ → ℕ → Type 0} {numbers : List ℕ} → AreByPlace c.order tells numbers → n ≡ get_or numbers k n → tells task n
-    number_here {n} {tells} {numbers} are e = subst (λ t. tells t n) here (subst (tells (slice_index c.order k)) (sym (get_or_read numbers k n (omega (arith, w, are.long)) e 0)) (are.each k w))
+    pub number_here : {n : ℕ} {tells : ℕ → ℕ → Type 0} {numbers : List ℕ}
+        → AreByPlace c.order tells numbers → n ≡ get_or numbers k n → tells task n
+    number_here {n} {tells} {numbers} are e = subst (λ t. tells t n) here
+        (subst (tells (slice_index c.order k)) (sym (get_or_read numbers k n (omega (arith, w, are.long)) e 0)) (are.each k w))
 
     at : task_entry x.fixed.places task ≡ k
     at = ap (task_entry x.fixed.places) (sym here) ∙ a.fixed.places_are k w
 
     pub front_read : stands_in (activated_tasks c st) task ≡ nat_lt k st.activated
-    front_read = both_ways _ _ (λ h. lt-ltb _ _ (omega (arith, at, place_of_activated task is h))) (λ h. activated_by_place task is (omega (arith, at, ltb-true _ _ h)))
+    front_read = both_ways _ _ (λ h. lt-ltb _ _ (omega (arith, at, place_of_activated task is h)))
+        (λ h. activated_by_place task is (omega (arith, at, ltb-true _ _ h)))
 
     phase_here : {q : Phase} → q ≡ get_or st.phases (task - 1) q → q ≡ phase_in st.phases task
     phase_here {q} e = phase_read st.phases task q is.0 (omega (arith, is.1, a.safe.phases)) e
@@ -136,7 +149,8 @@ module _ {c : Setting} {st : State} {x : CoreTables} (a : AreCoreTables c st x) 
     pub ready_read : {n : ℕ} → n ≡ get_or x.waiting k n → is_ready c.system (is_done st) task ≡ (n == 0)
     ready_read {n} e =
         let left : n ≡ awaited c.system (is_done st) task = number_here a.waiting_are e in
-        both_ways _ _ (λ h. eq-eqb n 0 (omega (arith, left, awaits_none c.system (is_done st) task h))) (λ h. ready_from c.system (is_done st) task (omega (arith, left, eqb-true n 0 h)))
+        both_ways _ _ (λ h. eq-eqb n 0 (omega (arith, left, awaits_none c.system (is_done st) task h)))
+        (λ h. ready_from c.system (is_done st) task (omega (arith, left, eqb-true n 0 h)))
 
   -- where a task may start, a worker is free
   pub start_room : (task : ℕ) → MayStart c st task → length x.running.listed < x.running.room
@@ -147,8 +161,10 @@ module _ {c : Setting} {st : State} {x : CoreTables} (a : AreCoreTables c st x) 
     pub start_fits : IsSafe c (state_after st Start task) → x.used + n ≤ c.bound
     start_fits safe = omega (arith, a.used_is, cost, change.used, safe.used, safe.booked)
 
-    pub started_tables : IsSafe c (state_after st Start task) → (now : RunningValue) → now.listed ≡ x.running.listed ++ task ∷ [] → now.room ≡ x.running.room → now.count ≡ x.running.count →
-        AreCoreTables c (record { activated = st.activated; phases = set st.phases (task - 1) Running }) (record x { running = now; used = x.used + n })
+    pub started_tables : IsSafe c (state_after st Start task) → (now : RunningValue)
+        → now.listed ≡ x.running.listed ++ task ∷ [] → now.room ≡ x.running.room → now.count ≡ x.running.count →
+        AreCoreTables c (record { activated = st.activated; phases = set st.phases (task - 1) Running })
+        (record x { running = now; used = x.used + n })
     started_tables safe now listed room count =
         let is = start_is_task task h in
         let here = with_phase_same st.phases task Running is.0 (omega (arith, is.1, a.safe.phases)) in
@@ -160,7 +176,8 @@ module _ {c : Setting} {st : State} {x : CoreTables} (a : AreCoreTables c st x) 
           fixed = a.fixed;
           waiting_are = record {
             long = a.waiting_are.long;
-            each = λ k w. a.waiting_are.each k w ∙ sym (awaited_same c.system (is_done (state_after st Start task)) (is_done st) (same_done c a.setting st a.safe task h) (slice_index c.order k));
+            each = λ k w. a.waiting_are.each k w ∙ sym (awaited_same c.system (is_done (state_after st Start task))
+                (is_done st) (same_done c a.setting st a.safe task h) (slice_index c.order k));
           };
           running_room = room ∙ a.running_room;
           running_numbers = count ∙ a.running_numbers;
@@ -169,10 +186,12 @@ module _ {c : Setting} {st : State} {x : CoreTables} (a : AreCoreTables c st x) 
               ap (λ xs. stands_in xs t) listed ∙ stands_appended x.running.listed task t ∙
               ⊎_elim
               (λ e. let yes : (task == t) ≡ true = eq-eqb task t e in
-              let on : is_running (state_after st Start task) t ≡ true = ap (λ u. is_running (state_after st Start task) u) (sym e) ∙ ap is_running_phase here in
+              let on : is_running (state_after st Start task) t ≡ true =
+              ap (λ u. is_running (state_after st Start task) u) (sym e) ∙ ap is_running_phase here in
               rw (yes, on) (or-true (stands_in x.running.listed t)))
               (λ d. let no : (task == t) ≡ false = ne_eqb task t d in
-              let other : is_running (state_after st Start task) t ≡ is_running st t = ap is_running_phase (with_phase_other st.phases task t Running (λ z. d (sym z))) in
+              let other : is_running (state_after st Start task) t ≡ is_running st t =
+              ap is_running_phase (with_phase_other st.phases task t Running (λ z. d (sym z))) in
               rw (no, other) (or-false (stands_in x.running.listed t) ∙ a.running_are t))
               (cases_eq task t);
           booked_is = a.booked_is ∙ sym change.booked;
@@ -182,12 +201,16 @@ module _ {c : Setting} {st : State} {x : CoreTables} (a : AreCoreTables c st x) 
 
   -- after a finish
   module _ {task : ℕ} (h : MayFinish c st task) where
-    fewer : (u : ℕ) → awaited c.system (is_done (state_after st Finish task)) u + count_by (is_edge task u) c.system.items ≡ awaited c.system (is_done st) u
-    fewer u = awaited_later c.system (is_done st) (is_done (state_after st Finish task)) task (ap is_done_phase h.running) (finish_adds c a.setting st a.safe task h) u
+    fewer : (u : ℕ)
+        → awaited c.system (is_done (state_after st Finish task)) u + count_by (is_edge task u) c.system.items
+        ≡ awaited c.system (is_done st) u
+    fewer u = awaited_later c.system (is_done st) (is_done (state_after st Finish task)) task
+        (ap is_done_phase h.running) (finish_adds c a.setting st a.safe task h) u
 
     -- at its place the row of consumers has as many of each place as it takes off there
     module _ {k : ℕ} (w : k < length c.order) (here : slice_index c.order k ≡ task) where
-      taken : (p : ℕ) → p < length c.order → count_by (λ q. q == p) (row_at x.fixed.consumers k) ≡ count_by (is_edge task (slice_index c.order p)) c.system.items
+      taken : (p : ℕ) → p < length c.order
+          → count_by (λ q. q == p) (row_at x.fixed.consumers k) ≡ count_by (is_edge task (slice_index c.order p)) c.system.items
       taken p v = a.fixed.consumers_are.counts k p w v ∙ ap (λ t. count_by (is_edge t (slice_index c.order p)) c.system.items) here
 
       pub finish_within : All (λ p. p < length x.waiting) (row_at x.fixed.consumers k)
@@ -199,25 +222,36 @@ module _ {c : Setting} {st : State} {x : CoreTables} (a : AreCoreTables c st x) 
           omega (arith, taken p v', a.waiting_are.each p v', fewer (slice_index c.order p))
 
       pub finish_waiting : (waiting : List ℕ) → length waiting ≡ length x.waiting →
-          ((p : ℕ) → p < length x.waiting → slice_index waiting p + count_by (λ q. q == p) (row_at x.fixed.consumers k) ≡ slice_index x.waiting p) →
+          ((p : ℕ) → p < length x.waiting
+          → slice_index waiting p + count_by (λ q. q == p) (row_at x.fixed.consumers k) ≡ slice_index x.waiting p) →
           AreByPlace c.order (λ t n. n ≡ awaited c.system (is_done (state_after st Finish task)) t) waiting
       finish_waiting waiting len counts = record {
         long = len ∙ a.waiting_are.long;
-        each = λ p v. omega (arith, taken p v, a.waiting_are.each p v, fewer (slice_index c.order p), counts p (omega (arith, v, a.waiting_are.long)));
+        each = λ p v. omega (
+          arith,
+          taken p v,
+          a.waiting_are.each p v,
+          fewer (slice_index c.order p),
+          counts p (omega (arith, v, a.waiting_are.long)),
+        );
       }
 
-    module _ (n : ℕ) (freed : n + outputs_of c.system task ≡ need_of c.system task + inputs_of c.system task) (change : FreesNeed c st task) where
+    module _ (n : ℕ) (freed : n + outputs_of c.system task ≡ need_of c.system task + inputs_of c.system task)
+        (change : FreesNeed c st task) where
       pub finish_frees : (n ≤ x.booked) × (n ≤ x.used)
       finish_frees = (omega (arith, freed, change.booked, a.booked_is), omega (arith, freed, change.used, a.used_is))
 
-      pub finished_tables : IsSafe c (state_after st Finish task) → (now : RunningValue) → ((t : ℕ) → stands_in now.listed t ≡ (stands_in x.running.listed t && not (t == task))) →
+      pub finished_tables : IsSafe c (state_after st Finish task) → (now : RunningValue)
+          → ((t : ℕ) → stands_in now.listed t ≡ (stands_in x.running.listed t && not (t == task))) →
           length now.listed + 1 ≡ length x.running.listed → now.room ≡ x.running.room → now.count ≡ x.running.count →
           (waiting : List ℕ) → AreByPlace c.order (λ t n. n ≡ awaited c.system (is_done (state_after st Finish task)) t) waiting →
-          AreCoreTables c (record { activated = st.activated; phases = set st.phases (task - 1) Done }) (record x { waiting = waiting; running = now; booked = x.booked - n; used = x.used - n })
+          AreCoreTables c (record { activated = st.activated; phases = set st.phases (task - 1) Done })
+          (record x { waiting = waiting; running = now; booked = x.booked - n; used = x.used - n })
       finished_tables safe now listed shorter room count waiting waits =
           let is = finish_is_task task h in
           let here = with_phase_same st.phases task Done is.0 (omega (arith, is.1, a.safe.phases)) in
-          let tables : AreCoreTables c (state_after st Finish task) (record x { waiting = waiting; running = now; booked = x.booked - n; used = x.used - n }) = record {
+          let tables : AreCoreTables c (state_after st Finish task)
+          (record x { waiting = waiting; running = now; booked = x.booked - n; used = x.used - n }) = record {
             setting = a.setting;
             few_workers = a.few_workers;
             safe = safe;
@@ -230,10 +264,12 @@ module _ {c : Setting} {st : State} {x : CoreTables} (a : AreCoreTables c st x) 
                 listed t ∙
                 ⊎_elim
                 (λ e. let yes : (t == task) ≡ true = eq-eqb t task e in
-                let off : is_running (state_after st Finish task) t ≡ false = ap (λ u. is_running (state_after st Finish task) u) e ∙ ap is_running_phase here in
+                let off : is_running (state_after st Finish task) t ≡ false =
+                ap (λ u. is_running (state_after st Finish task) u) e ∙ ap is_running_phase here in
                 rw (yes, off) (and-false (stands_in x.running.listed t)))
                 (λ d. let no : (t == task) ≡ false = ne_eqb t task d in
-                let other : is_running (state_after st Finish task) t ≡ is_running st t = ap is_running_phase (with_phase_other st.phases task t Done d) in
+                let other : is_running (state_after st Finish task) t ≡ is_running st t =
+                ap is_running_phase (with_phase_other st.phases task t Done d) in
                 rw (no, other) (and-true (stands_in x.running.listed t) ∙ a.running_are t))
                 (cases_eq t task);
             booked_is = omega (arith, freed, change.booked, a.booked_is);

@@ -45,12 +45,14 @@ upto_hit x (suc n) low high =
     omega (arith, here, upto_hit x n low (omega arith)))
     (cases_eq x (suc n))
 
-length_upto : (s : TaskSystem) (xs : List ℕ) → AllByRecursion (IsTask s) xs → length xs ≡ upto (λ v. count_by (λ u. u == v) xs) (length s.tasks)
+length_upto : (s : TaskSystem) (xs : List ℕ) → AllByRecursion (IsTask s) xs
+    → length xs ≡ upto (λ v. count_by (λ u. u == v) xs) (length s.tasks)
 length_upto s [] all = sym (upto_zeros (λ v. count_by (λ u. u == v) []) (length s.tasks) (λ v l. refl))
 length_upto s (x ∷ xs) all =
     let ih = length_upto s xs all.1 in
     let one = upto_hit x (length s.tasks) all.0.0 all.0.1 in
-    let sum = upto_add (hit x) (λ v. count_by (λ u. u == v) xs) (λ v. count_by (λ u. u == v) (x ∷ xs)) (λ v. unfold hit in sum_by-cons (λ u. cond (u == v) 1 0) x xs) (length s.tasks) in
+    let sum = upto_add (hit x) (λ v. count_by (λ u. u == v) xs) (λ v. count_by (λ u. u == v) (x ∷ xs))
+    (λ v. unfold hit in sum_by-cons (λ u. cond (u == v) 1 0) x xs) (length s.tasks) in
     omega (arith, ih, one, sum)
 
 pub each_long : (s : TaskSystem) (xs : List ℕ) → HoldsEach s xs → length xs ≡ length s.tasks

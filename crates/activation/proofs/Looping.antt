@@ -1,5 +1,6 @@
 -- The events of a run so far, and one more.
-use Rattle.std.proofs.Common.{◌≡◌, ℕ, ◌+◌, ◌≤◌, max, List, [], ◌∷◌, ◌++◌, length, refl, sym, subst, ◌∙◌, ap, arith, append_assoc, append-nil, length-append}
+use Rattle.std.proofs.Common.{◌≡◌, ℕ, ◌+◌, ◌≤◌, max, List, [], ◌∷◌, ◌++◌, length, refl, sym, subst}
+use Rattle.std.proofs.Common.{◌∙◌, ap, arith, append_assoc, append-nil, length-append}
 use Rattle.activation.specs.declared.events.Event.{Event}
 use Rattle.activation.specs.Machine.{Setting, IsSetting, State, start_state, state_after, used_memory, booked_memory, AllDone}
 use Rattle.activation.specs.Safe.{IsSafe}
@@ -13,10 +14,13 @@ pub record IsSoFar (run : RunValue) (setting : Setting) (priority : List ℕ) (e
   pub setting_is : run.setting ≡ setting
   pub priority_is : run.priority ≡ priority
   pub count : length events ≡ event_count run.setting run.moment.state
-  pub schedule : (es : List Event) → IsSchedule run.setting run.priority run.moment es → IsSchedule run.setting run.priority (first_moment run.setting) (events ++ es)
+  pub schedule : (es : List Event) → IsSchedule run.setting run.priority run.moment es
+      → IsSchedule run.setting run.priority (first_moment run.setting) (events ++ es)
   pub time : (es : List Event) → last_time 0 (events ++ es) ≡ last_time run.moment.time es
-  pub most_used_is : (es : List Event) → most_used run.setting (start_state run.setting) (events ++ es) ≡ max used (most_used run.setting run.moment.state es)
-  pub most_booked_is : (es : List Event) → most_booked run.setting (start_state run.setting) (events ++ es) ≡ max booked (most_booked run.setting run.moment.state es)
+  pub most_used_is : (es : List Event)
+      → most_used run.setting (start_state run.setting) (events ++ es) ≡ max used (most_used run.setting run.moment.state es)
+  pub most_booked_is : (es : List Event)
+      → most_booked run.setting (start_state run.setting) (events ++ es) ≡ max booked (most_booked run.setting run.moment.state es)
   pub used_now : used_memory run.setting run.moment.state ≤ used
   pub booked_now : booked_memory run.setting run.moment.state ≤ booked
   pub within : booked ≤ run.setting.bound
@@ -31,7 +35,8 @@ booked_first c st (e ∷ es) = omega arith
 
 -- at the start
 pub so_far_start : (run : RunValue) → run.moment ≡ first_moment run.setting → (events : List Event) → events ≡ [] → (used booked : ℕ) →
-    used ≡ used_memory run.setting run.moment.state → booked ≡ booked_memory run.setting run.moment.state → IsSafe run.setting run.moment.state →
+    used ≡ used_memory run.setting run.moment.state
+    → booked ≡ booked_memory run.setting run.moment.state → IsSafe run.setting run.moment.state →
     IsSoFar run run.setting run.priority events used booked
 so_far_start run start events none used booked used_is booked_is safe =
     let state : run.moment.state ≡ start_state run.setting = ap (λ (m : Moment). m.state) start in
@@ -43,20 +48,25 @@ so_far_start run start events none used booked used_is booked_is safe =
       time = λ es. rw none (ap (λ (m : Moment). last_time m.time es) (sym start));
       most_used_is = λ es.
           let first = used_first run.setting run.moment.state es in
-          let all : most_used run.setting (start_state run.setting) (events ++ es) ≡ most_used run.setting run.moment.state es = rw none (ap (λ st. most_used run.setting st es) (sym state)) in
+          let all : most_used run.setting (start_state run.setting) (events ++ es) ≡ most_used run.setting run.moment.state es =
+          rw none (ap (λ st. most_used run.setting st es) (sym state)) in
           omega (arith, first, all, used_is);
       most_booked_is = λ es.
           let first = booked_first run.setting run.moment.state es in
-          let all : most_booked run.setting (start_state run.setting) (events ++ es) ≡ most_booked run.setting run.moment.state es = rw none (ap (λ st. most_booked run.setting st es) (sym state)) in
+          let all : most_booked run.setting (start_state run.setting) (events ++ es) ≡ most_booked run.setting run.moment.state es =
+          rw none (ap (λ st. most_booked run.setting st es) (sym state)) in
           omega (arith, first, all, booked_is);
       used_now = omega (arith, used_is);
       booked_now = omega (arith, booked_is);
       within = omega (arith, booked_is, safe.booked);
     }
 
-module _ (old new : RunValue) (e : Event) (same : new.setting ≡ old.setting) (priority : new.priority ≡ old.priority) (next : new.moment ≡ moment_after old.setting old.moment e)
-    (set : IsSetting old.setting) (safe : IsSafe old.setting old.moment.state) (comes : ComesNext old.setting old.priority old.moment e.kind e.time e.task) where
-  moved : (P : RunValue → Type 0) → P (record { setting = old.setting; priority = old.priority; moment = moment_after old.setting old.moment e }) → P new
+module _ (old new : RunValue) (e : Event) (same : new.setting ≡ old.setting)
+    (priority : new.priority ≡ old.priority) (next : new.moment ≡ moment_after old.setting old.moment e)
+    (set : IsSetting old.setting) (safe : IsSafe old.setting old.moment.state)
+    (comes : ComesNext old.setting old.priority old.moment e.kind e.time e.task) where
+  moved : (P : RunValue → Type 0)
+      → P (record { setting = old.setting; priority = old.priority; moment = moment_after old.setting old.moment e }) → P new
   moved P h =
       let w : RunValue = record { setting = old.setting; priority = old.priority; moment = moment_after old.setting old.moment e } in
       let p : new ≡ w = λ i. record { setting = same i; priority = priority i; moment = next i } in
@@ -64,15 +74,19 @@ module _ (old new : RunValue) (e : Event) (same : new.setting ≡ old.setting) (
 
   pub count_more : event_count new.setting new.moment.state ≡ event_count old.setting old.moment.state + 1
   count_more = moved (λ v. event_count v.setting v.moment.state ≡ event_count old.setting old.moment.state + 1)
-      (count_step old.setting set old.moment.state safe e.kind e.task (comes_legal old.setting old.priority old.moment e.kind e.time e.task comes))
+      (count_step old.setting set old.moment.state safe e.kind e.task
+      (comes_legal old.setting old.priority old.moment e.kind e.time e.task comes))
 
   -- after one more event
-  pub so_far_more : (setting : Setting) (prio : List ℕ) (events : List Event) (used booked : ℕ) → IsSoFar old setting prio events used booked → IsSafe new.setting new.moment.state →
-      (used' booked' u b : ℕ) → used' ≡ max used u → booked' ≡ max booked b → u ≡ used_memory new.setting new.moment.state → b ≡ booked_memory new.setting new.moment.state →
+  pub so_far_more : (setting : Setting) (prio : List ℕ) (events : List Event) (used booked : ℕ)
+      → IsSoFar old setting prio events used booked → IsSafe new.setting new.moment.state →
+      (used' booked' u b : ℕ) → used' ≡ max used u → booked' ≡ max booked b
+      → u ≡ used_memory new.setting new.moment.state → b ≡ booked_memory new.setting new.moment.state →
       IsSoFar new setting prio (events ++ e ∷ []) used' booked'
   so_far_more setting prio events used booked s =
       moved
-      (λ v. IsSafe v.setting v.moment.state → (used' booked' u b : ℕ) → used' ≡ max used u → booked' ≡ max booked b → u ≡ used_memory v.setting v.moment.state → b ≡ booked_memory v.setting v.moment.state →
+      (λ v. IsSafe v.setting v.moment.state → (used' booked' u b : ℕ) → used' ≡ max used u → booked' ≡ max booked b
+      → u ≡ used_memory v.setting v.moment.state → b ≡ booked_memory v.setting v.moment.state →
       IsSoFar v setting prio (events ++ e ∷ []) used' booked')
       (λ safe' used' booked' u b used_is booked_is u_is b_is.
       let legal = comes_legal old.setting old.priority old.moment e.kind e.time e.task comes in
@@ -84,11 +98,15 @@ module _ (old new : RunValue) (e : Event) (same : new.setting ≡ old.setting) (
         schedule = λ es h. rw append_assoc (s.schedule (e ∷ es) (comes, h));
         time = λ es. rw append_assoc (s.time (e ∷ es));
         most_used_is = λ es.
-            let all : most_used old.setting (start_state old.setting) ((events ++ e ∷ []) ++ es) ≡ max used (max (used_memory old.setting old.moment.state) (most_used old.setting later es)) = rw append_assoc (s.most_used_is (e ∷ es)) in
+            let all : most_used old.setting (start_state old.setting) ((events ++ e ∷ []) ++ es)
+            ≡ max used (max (used_memory old.setting old.moment.state) (most_used old.setting later es)) =
+            rw append_assoc (s.most_used_is (e ∷ es)) in
             let first = used_first old.setting later es in
             omega (arith, all, first, s.used_now, used_is, u_is);
         most_booked_is = λ es.
-            let all : most_booked old.setting (start_state old.setting) ((events ++ e ∷ []) ++ es) ≡ max booked (max (booked_memory old.setting old.moment.state) (most_booked old.setting later es)) = rw append_assoc (s.most_booked_is (e ∷ es)) in
+            let all : most_booked old.setting (start_state old.setting) ((events ++ e ∷ []) ++ es)
+            ≡ max booked (max (booked_memory old.setting old.moment.state) (most_booked old.setting later es)) =
+            rw append_assoc (s.most_booked_is (e ∷ es)) in
             let first = booked_first old.setting later es in
             omega (arith, all, first, s.booked_now, booked_is, b_is);
         used_now = omega (arith, used_is, u_is);
@@ -97,7 +115,8 @@ module _ (old new : RunValue) (e : Event) (same : new.setting ≡ old.setting) (
       })
 
 -- where the loop ends
-module _ (run : RunValue) (setting : Setting) (prio : List ℕ) (events : List Event) (used booked : ℕ) (s : IsSoFar run setting prio events used booked) where
+module _ (run : RunValue) (setting : Setting) (prio : List ℕ) (events : List Event)
+    (used booked : ℕ) (s : IsSoFar run setting prio events used booked) where
   pub ends_schedule : AllDone run.setting run.moment.state → IsSchedule setting prio (first_moment setting) events
   ends_schedule done =
       let all = s.schedule [] done in
@@ -110,13 +129,15 @@ module _ (run : RunValue) (setting : Setting) (prio : List ℕ) (events : List E
   pub ends_used : used ≡ most_used setting (start_state setting) events
   ends_used =
       let all = s.most_used_is [] in
-      let all' : most_used run.setting (start_state run.setting) events ≡ max used (used_memory run.setting run.moment.state) = rw append-nil at all in
+      let all' : most_used run.setting (start_state run.setting) events ≡ max used (used_memory run.setting run.moment.state) =
+      rw append-nil at all in
       let all'' : used ≡ most_used run.setting (start_state run.setting) events = omega (arith, all', s.used_now) in
       rw (← s.setting_is) all''
 
   pub ends_booked : booked ≡ most_booked setting (start_state setting) events
   ends_booked =
       let all = s.most_booked_is [] in
-      let all' : most_booked run.setting (start_state run.setting) events ≡ max booked (booked_memory run.setting run.moment.state) = rw append-nil at all in
+      let all' : most_booked run.setting (start_state run.setting) events ≡ max booked (booked_memory run.setting run.moment.state) =
+      rw append-nil at all in
       let all'' : booked ≡ most_booked run.setting (start_state run.setting) events = omega (arith, all', s.booked_now) in
       rw (← s.setting_is) all''

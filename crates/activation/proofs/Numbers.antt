@@ -1,5 +1,6 @@
 -- A list with a number for each task, when one number changes.
-use Rattle.std.proofs.Common.{◌≡◌, ◌≢◌, ℕ, zero, suc, ◌+◌, ◌-◌, ◌<◌, ◌≤◌, true, false, cond, List, length, get_or, refl, sym, add-one, ◌∙◌, ap, arith, ⊎_elim, Option, Some, set, get_or-set_same, get_or-set_other}
+use Rattle.std.proofs.Common.{◌≡◌, ◌≢◌, ℕ, zero, suc, ◌+◌, ◌-◌, ◌<◌, ◌≤◌, true, false, cond, List, length, get_or, refl, sym}
+use Rattle.std.proofs.Common.{add-one, ◌∙◌, ap, arith, ⊎_elim, Option, Some, set, get_or-set_same, get_or-set_other}
 use Rattle.std.specs.Prelude.{◌==◌, replicate}
 use Rattle.std.proofs.lemmas.List.{get_or_read}
 use Rattle.std.proofs.lemmas.Bool.{cases_eq, eq-eqb, ne_eqb}
@@ -40,7 +41,8 @@ number_replicate (suc n) (suc zero) = refl
 number_replicate (suc n) (suc (suc i)) = number_replicate n (suc i)
 
 -- one number raised
-pub raised : (xs : List ℕ) (t x : ℕ) → 0 < t → t ≤ length xs → (u : ℕ) → task_entry (set xs (t - 1) (get_or xs (t - 1) 0 + x)) u ≡ task_entry xs u + cond (t == u) x 0
+pub raised : (xs : List ℕ) (t x : ℕ) → 0 < t → t ≤ length xs → (u : ℕ)
+    → task_entry (set xs (t - 1) (get_or xs (t - 1) 0 + x)) u ≡ task_entry xs u + cond (t == u) x 0
 raised xs t x low high u =
     ⊎_elim
     (λ e. let e' : (t == u) ≡ true = eq-eqb t u e in

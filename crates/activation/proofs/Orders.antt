@@ -1,5 +1,6 @@
 -- Where tasks stand in a list that holds each once, and in a traversal.
-use Rattle.std.proofs.Common.{◌≡◌, ℕ, ◌+◌, ◌<◌, ◌≤◌, Bool, true, cond, List, ◌∷◌, ◌++◌, length, take, drop, get_or, sym, subst, add-one, drop-cons, ◌∙◌, ap, arith, ⊎_elim}
+use Rattle.std.proofs.Common.{◌≡◌, ℕ, ◌+◌, ◌<◌, ◌≤◌, Bool, true, cond, List, ◌∷◌, ◌++◌, length, take}
+use Rattle.std.proofs.Common.{drop, get_or, sym, subst, add-one, drop-cons, ◌∙◌, ap, arith, ⊎_elim}
 use Rattle.std.specs.Prelude.{count_by, ◌==◌, slice_index}
 use Rattle.std.proofs.lemmas.List.{length-take, get_or-take, take-append-drop}
 use Rattle.std.proofs.lemmas.List.Elements.{All-get_or}
@@ -45,14 +46,16 @@ module _ (s : TaskSystem) (order : List ℕ) (tr : HoldsEach s order) where
   stands_before task i j lt w a b =
       let len = length-take j order in
       let e = get_or-take j order i 0 lt in
-      let early : stands_in (take j order) task ≡ true = ap (λ x. stands_in (take j order) x) (sym (e ∙ a)) ∙ in_at (take j order) i (omega (arith, len)) in
+      let early : stands_in (take j order) task ≡ true =
+      ap (λ x. stands_in (take j order) x) (sym (e ∙ a)) ∙ in_at (take j order) i (omega (arith, len)) in
       let more = sum_by_more (λ (x : ℕ). cond (x == task) 1 0) order j 0 w in
       let here : ◌≡◌ {A = ℕ} (cond (get_or order j 0 == task) 1 0) 1 = ap (λ (y : Bool). cond y 1 0) (eq-eqb (get_or order j 0) task b) in
       omega (arith, counted_in (take j order) task early, more, here, counted_once (j + 1) task)
 
   pub stands_once : (task i j : ℕ) → i < length order → j < length order → slice_index order i ≡ task → slice_index order j ≡ task → i ≡ j
   stands_once task i j wi wj a b =
-      ⊎_elim (λ e. e) (λ r. ⊎_elim (λ lt. absurd (stands_before task i j lt wj a b)) (λ gt. absurd (stands_before task j i gt wi b a)) r) (cases_order i j)
+      ⊎_elim (λ e. e) (λ r. ⊎_elim (λ lt. absurd (stands_before task i j lt wj a b)) (λ gt. absurd (stands_before task j i gt wi b a)) r)
+      (cases_order i j)
 
 -- what stands before a place, and after it
 pub split_at : (order : List ℕ) (k : ℕ) → k < length order → order ≡ take k order ++ get_or order k 0 ∷ drop (k + 1) order
@@ -62,7 +65,8 @@ split_at order k w = sym (take-append-drop k order) ∙ ap (λ xs. take k order 
     drop_at k w = rw add-one (drop-cons order k 0 w)
 
 -- a task is ready once those before it are done
-pub ready_at : (s : TaskSystem) (order : List ℕ) → IsTraversal s order → (k : ℕ) → k < length order → is_ready s (stands_in (take k order)) (get_or order k 0) ≡ true
+pub ready_at : (s : TaskSystem) (order : List ℕ) → IsTraversal s order → (k : ℕ)
+    → k < length order → is_ready s (stands_in (take k order)) (get_or order k 0) ≡ true
 ready_at s order tr k w = tr.after_suppliers (take k order) (drop (k + 1) order) (get_or order k 0) (split_at order k w)
 
 pub each : {c : Setting} → IsSetting c → HoldsEach c.system c.order

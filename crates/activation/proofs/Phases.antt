@@ -1,5 +1,6 @@
 -- What a change of one task's phase leaves.
-use Rattle.std.proofs.Common.{◌≡◌, ◌≢◌, ℕ, zero, suc, ◌-◌, ◌<◌, ◌≤◌, true, List, length, get_or, refl, sym, ◌∙◌, arith, get_or-set_same, get_or-set_other, set, ⊎_elim}
+use Rattle.std.proofs.Common.{◌≡◌, ◌≢◌, ℕ, zero, suc, ◌-◌, ◌<◌, ◌≤◌, true, List, length, get_or, refl}
+use Rattle.std.proofs.Common.{sym, ◌∙◌, arith, get_or-set_same, get_or-set_other, set, ⊎_elim}
 use Rattle.std.proofs.lemmas.List.{length-set, get_or_read, get_or_past}
 use Rattle.std.proofs.lemmas.Bool.{cases_lt}
 use Rattle.activation.specs.declared.events.Phase.{Phase}
@@ -39,7 +40,8 @@ phase_written ps (suc i) p low = let f : suc i - 1 ≡ i = omega arith in rw f
 pub phase_past : (ps : List Phase) (t : ℕ) → (IsNumber t (length ps) → ⊥) → phase_in ps t ≡ Idle
 unfolding phase_in
 phase_past ps zero n = refl
-phase_past ps (suc i) n = ⊎_elim (λ (w : i < length ps). absurd (n (omega arith, omega arith))) (λ (w : length ps ≤ i). get_or_past ps i Idle w) (cases_lt i (length ps))
+phase_past ps (suc i) n = ⊎_elim (λ (w : i < length ps). absurd (n (omega arith, omega arith)))
+    (λ (w : length ps ≤ i). get_or_past ps i Idle w) (cases_lt i (length ps))
 
 -- the phase that a test tells
 pub idle_from : (p : Phase) → is_idle_phase p ≡ true → p ≡ Idle

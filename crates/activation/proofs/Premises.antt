@@ -10,10 +10,12 @@ use Rattle.activation.specs.Machine.{Setting, IsSetting, State, MayHappen, state
 use Rattle.activation.specs.Safe.{IsSafe}
 
 abbrev pub StateSame : Type 0
-StateSame = (system : TaskSystem) (done other : ℕ → Bool) → ((u : ℕ) → done u ≡ other u) → state_memory system done ≡ state_memory system other
+StateSame =
+    (system : TaskSystem) (done other : ℕ → Bool) → ((u : ℕ) → done u ≡ other u) → state_memory system done ≡ state_memory system other
 
 abbrev pub ReadyMore : Type 0
-ReadyMore = (system : TaskSystem) (done later : ℕ → Bool) (v : ℕ) → ((u : ℕ) → done u ≡ true → later u ≡ true) → is_ready system done v ≡ true → is_ready system later v ≡ true
+ReadyMore = (system : TaskSystem) (done later : ℕ → Bool) (v : ℕ)
+    → ((u : ℕ) → done u ≡ true → later u ≡ true) → is_ready system done v ≡ true → is_ready system later v ≡ true
 
 abbrev pub StateStep : Type 0
 StateStep = (system : TaskSystem) (done later : ℕ → Bool) (v : ℕ) → CanRun system done v → AddsTask done v later →
@@ -30,4 +32,5 @@ abbrev pub StartSafe : Type 0
 StartSafe = (c : Setting) → IsSetting c → IsSafe c (start_state c)
 
 abbrev pub Kept : Type 0
-Kept = (c : Setting) → IsSetting c → (st : State) → IsSafe c st → (kind : EventKind) (t : ℕ) → MayHappen c st kind t → IsSafe c (state_after st kind t)
+Kept = (c : Setting) → IsSetting c → (st : State) → IsSafe c st
+    → (kind : EventKind) (t : ℕ) → MayHappen c st kind t → IsSafe c (state_after st kind t)

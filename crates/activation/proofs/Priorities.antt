@@ -1,5 +1,6 @@
 -- Which tasks a list holds, marked one after the other.
-use Rattle.std.proofs.Common.{◌≡◌, ℕ, ◌+◌, ◌-◌, ◌<◌, Bool, true, false, cond, List, length, take, get_or, set, get_or-set_same, get_or-set_other, refl, sym, subst, add-zero, ◌∙◌, ap, arith, ⊎_elim}
+use Rattle.std.proofs.Common.{◌≡◌, ℕ, ◌+◌, ◌-◌, ◌<◌, Bool, true, false, cond, List, length, take, get_or, set, get_or-set_same}
+use Rattle.std.proofs.Common.{get_or-set_other, refl, sym, subst, add-zero, ◌∙◌, ap, arith, ⊎_elim}
 use Rattle.std.specs.Prelude.{count_by, ◌==◌}
 use Rattle.std.proofs.lemmas.List.{length-set, take_all}
 use Rattle.std.proofs.lemmas.List.Elements.{All-get_or, All-from_get_or}
@@ -18,7 +19,8 @@ module _ {s : TaskSystem} {tasks : List ℕ} {i : ℕ} {found : List Bool} (m : 
   counted : (t : ℕ) → count_by (λ u. u == t) (take (i + 1) tasks) ≡ count_by (λ u. u == t) (take i tasks) + cond (get_or tasks i 0 == t) 1 0
   counted t = sum_by_more (λ (u : ℕ). cond (u == t) 1 0) tasks i 0 w
 
-  pub one_marked : IsTask s (get_or tasks i 0) → get_or found (get_or tasks i 0 - 1) false ≡ false → AreMarked s tasks (i + 1) (set found (get_or tasks i 0 - 1) true)
+  pub one_marked : IsTask s (get_or tasks i 0) → get_or found (get_or tasks i 0 - 1) false ≡ false
+      → AreMarked s tasks (i + 1) (set found (get_or tasks i 0 - 1) true)
   one_marked is fresh =
       let task = get_or tasks i 0 in
       record {
@@ -27,11 +29,14 @@ module _ {s : TaskSystem} {tasks : List ℕ} {i : ℕ} {found : List Bool} (m : 
         counts = λ t it.
             ⊎_elim
             (λ e.
-            let now : get_or (set found (task - 1) true) (t - 1) false ≡ true = ap (λ u. get_or (set found (task - 1) true) (u - 1) false) (sym e) ∙ get_or-set_same found (task - 1) true false (omega (arith, is.0, is.1, m.long)) in
+            let now : get_or (set found (task - 1) true) (t - 1) false ≡ true =
+            ap (λ u. get_or (set found (task - 1) true) (u - 1) false) (sym e)
+            ∙ get_or-set_same found (task - 1) true false (omega (arith, is.0, is.1, m.long)) in
             let was : get_or found (t - 1) false ≡ false = ap (λ u. get_or found (u - 1) false) (sym e) ∙ fresh in
             counted t ∙ rw (m.counts t it, was, now, eq-eqb task t e))
             (λ n.
-            let other : get_or (set found (task - 1) true) (t - 1) false ≡ get_or found (t - 1) false = get_or-set_other found (task - 1) (t - 1) true false (omega (arith, is.0, it.0, n)) in
+            let other : get_or (set found (task - 1) true) (t - 1) false ≡ get_or found (t - 1) false =
+            get_or-set_other found (task - 1) (t - 1) true false (omega (arith, is.0, it.0, n)) in
             counted t ∙ rw (m.counts t it, other, ne_eqb task t n, add-zero))
             (cases_eq task t);
       }

@@ -1,5 +1,6 @@
 -- What every state keeps that events lead to from the start.
-use Rattle.std.proofs.Common.{inl, ◌≡◌, ◌≢◌, ℕ, zero, suc, ◌+◌, ◌-◌, ◌≤◌, Bool, true, false, cond, List, [], ◌∷◌, length, take, drop, get_or, refl, sym, ◌∙◌, ap, arith, ⊎_elim}
+use Rattle.std.proofs.Common.{inl, ◌≡◌, ◌≢◌, ℕ, zero, suc, ◌+◌, ◌-◌, ◌≤◌, Bool, true, false, cond, List}
+use Rattle.std.proofs.Common.{[], ◌∷◌, length, take, drop, get_or, refl, sym, ◌∙◌, ap, arith, ⊎_elim}
 use Rattle.std.specs.Prelude.{count_by, ◌==◌, replicate}
 use Rattle.std.specs.List.{sum_by}
 use Rattle.std.proofs.lemmas.List.{take_more, length-replicate}
@@ -12,7 +13,9 @@ use Rattle.activation.specs.declared.events.Phase.TheVariants.{Idle, Running, Do
 use Rattle.activation.specs.declared.events.EventKind.{EventKind}
 use Rattle.activation.specs.declared.events.EventKind.TheVariants.{Activate, Start, Finish}
 use Rattle.activation.specs.declared.events.Event.{Event}
-use Rattle.activation.specs.Machine.{Setting, IsSetting, State, phase_in, is_running_phase, is_done_phase, is_running, is_done, activated_tasks, booked_memory, used_memory, start_state, MayActivate, MayStart, MayFinish, MayHappen, state_after}
+use Rattle.activation.specs.Machine.{Setting, IsSetting, State, phase_in, is_running_phase, is_done_phase}
+use Rattle.activation.specs.Machine.{is_running, is_done, activated_tasks, booked_memory, used_memory, start_state}
+use Rattle.activation.specs.Machine.{MayActivate, MayStart, MayFinish, MayHappen, state_after}
 use Rattle.activation.specs.Runs.{AreLegal, state_after_all}
 use Rattle.activation.specs.Safe.{IsSafe}
 use Rattle.activation.specs.Changes.{IsChange}
@@ -49,7 +52,8 @@ pub count_zero : (f : ℕ → Bool) → (xs : List ℕ) → ((x : ℕ) → stand
 count_zero f xs none = sum_zero (λ y. cond (f y) 1 0) xs (λ x h. ap (λ (b : Bool). cond b 1 0) (none x h))
 
 -- the running tasks are among the activated ones that are not done
-pub used_within : (c : Setting) → IsSetting c → (st : State) → ((t : ℕ) → phase_in st.phases t ≢ Idle → stands_in (activated_tasks c st) t ≡ true) → used_memory c st ≤ booked_memory c st
+pub used_within : (c : Setting) → IsSetting c → (st : State)
+    → ((t : ℕ) → phase_in st.phases t ≢ Idle → stands_in (activated_tasks c st) t ≡ true) → used_memory c st ≤ booked_memory c st
 used_within c set st begun =
     let f : ℕ → ℕ = λ x. cond (is_running st x) (need_of c.system x) 0 in
     let g : ℕ → ℕ = λ x. cond (is_done st x) 0 (need_of c.system x) in
@@ -62,7 +66,8 @@ used_within c set st begun =
     absurd (omega (arith, one, halves, counted_in (activated_tasks c st) x front, counted_in (drop st.activated c.order) x h)))
     (λ n. ap (λ (b : Bool). cond b (need_of c.system x) 0) n)
     (cases_Bool (is_running st x))) in
-    let le : sum_by f (activated_tasks c st) ≤ sum_by g (activated_tasks c st) = sum_by-le-sum_by f g (activated_tasks c st) (λ x. less (phase_in st.phases x) (need_of c.system x)) in
+    let le : sum_by f (activated_tasks c st) ≤ sum_by g (activated_tasks c st) =
+    sum_by-le-sum_by f g (activated_tasks c st) (λ x. less (phase_in st.phases x) (need_of c.system x)) in
     omega (arith, split, rest, le)
   where
     less : (p : Phase) (n : ℕ) → cond (is_running_phase p) n 0 ≤ cond (is_done_phase p) 0 n
@@ -73,14 +78,16 @@ used_within c set st begun =
 -- at the start no task is done or runs
 pub start_booked : StateSame → (c : Setting) → booked_memory c (start_state c) ≡ state_memory c.system (λ _. false)
 start_booked state_same c =
-    let same = state_same c.system (is_done (start_state c)) (λ _. false) (λ x. ap is_done_phase (phase_replicate (length c.system.tasks) x)) in
+    let same =
+    state_same c.system (is_done (start_state c)) (λ _. false) (λ x. ap is_done_phase (phase_replicate (length c.system.tasks) x)) in
     omega (arith, same)
 
 pub start_used : StateSame → (c : Setting) → used_memory c (start_state c) ≡ state_memory c.system (λ _. false)
 start_used state_same c =
     let idle = phase_replicate (length c.system.tasks) in
     let same = state_same c.system (is_done (start_state c)) (λ _. false) (λ x. ap is_done_phase (idle x)) in
-    let none = sum_zero (λ x. cond (is_running (start_state c) x) (need_of c.system x) 0) c.order (λ x h. ap (λ (p : Phase). cond (is_running_phase p) (need_of c.system x) 0) (idle x)) in
+    let none = sum_zero (λ x. cond (is_running (start_state c) x) (need_of c.system x) 0) c.order
+    (λ x h. ap (λ (p : Phase). cond (is_running_phase p) (need_of c.system x) 0) (idle x)) in
     omega (arith, same, none)
 
 pub start_safe : StateSame → PeakBound → (c : Setting) → IsSetting c → IsSafe c (start_state c)
@@ -89,7 +96,8 @@ start_safe state_same peak_bound c set =
     let none = count_zero (is_running (start_state c)) c.order (λ x h. ap is_running_phase (idle x)) in
     let same = state_same c.system (is_done (start_state c)) (stands_in []) (λ x. ap is_done_phase (idle x)) in
     let first = peak_bound c.system c.order (state_memory c.system (stands_in [])) (inl ([], c.order, refl, refl)) in
-    let begun : (t : ℕ) → phase_in (start_state c).phases t ≢ Idle → stands_in (activated_tasks c (start_state c)) t ≡ true = λ t n. absurd (n (idle t)) in
+    let begun : (t : ℕ) → phase_in (start_state c).phases t ≢ Idle → stands_in (activated_tasks c (start_state c)) t ≡ true =
+    λ t n. absurd (n (idle t)) in
     record {
       phases = length-replicate (length c.system.tasks) Idle;
       prefix = omega arith;
@@ -100,13 +108,15 @@ start_safe state_same peak_bound c set =
       booked = omega (arith, same, first, set.bound);
     }
 
-module _ (change : (c : Setting) → IsSetting c → (st : State) → IsSafe c st → (kind : EventKind) (t : ℕ) → MayHappen c st kind t → IsChange c st kind t) (more : ReadyMore)
+module _ (change : (c : Setting) → IsSetting c → (st : State) → IsSafe c st
+    → (kind : EventKind) (t : ℕ) → MayHappen c st kind t → IsChange c st kind t) (more : ReadyMore)
     (c : Setting) (set : IsSetting c) (st : State) (so : IsSafe c st) (t : ℕ) where
   activate_safe : MayActivate c st t → IsSafe c (state_after st Activate t)
   activate_safe h =
       let booked = (change c set st so Activate t h).booked in
       let begun : (u : ℕ) → phase_in st.phases u ≢ Idle → stands_in (activated_tasks c (state_after st Activate t)) u ≡ true =
-      λ u n. let e = take_more c.order st.activated 0 h.left in rw e (in_more (take st.activated c.order) (get_or c.order st.activated 0 ∷ []) u (so.activated u n)) in
+      λ u n. let e = take_more c.order st.activated 0 h.left in
+      rw e (in_more (take st.activated c.order) (get_or c.order st.activated 0 ∷ []) u (so.activated u n)) in
       record {
         phases = so.phases;
         prefix = omega (arith, h.left);
@@ -128,7 +138,8 @@ module _ (change : (c : Setting) → IsSetting c → (st : State) → IsSafe c s
         phases = length-with_phase st.phases t Running ∙ so.phases;
         prefix = so.prefix;
         activated = begun;
-        ready = λ u n. more c.system (is_done st) (is_done st') u (λ x y. same_done c set st so t h x ∙ y) (⊎_elim (λ e. rw e h.ready) (λ m. so.ready u (λ z. n (other u m ∙ z))) (cases_eq u t));
+        ready = λ u n. more c.system (is_done st) (is_done st') u (λ x y. same_done c set st so t h x ∙ y)
+            (⊎_elim (λ e. rw e h.ready) (λ m. so.ready u (λ z. n (other u m ∙ z))) (cases_eq u t));
         workers = omega (arith, to.running, h.free);
         used = used_within c set st' begun;
         booked = omega (arith, to.booked, so.booked);
@@ -138,16 +149,19 @@ module _ (change : (c : Setting) → IsSetting c → (st : State) → IsSafe c s
   finish_safe h =
       let st' = state_after st Finish t in
       let to = change c set st so Finish t h in
-      let here = task_in_order c.system c.order (each set) t (in_front c.system c.order (each set) st.activated t (finishes_front c set st so t h)) in
+      let here = task_in_order c.system c.order (each set) t
+      (in_front c.system c.order (each set) st.activated t (finishes_front c set st so t h)) in
       let other : (u : ℕ) → u ≢ t → phase_in st'.phases u ≡ phase_in st.phases u = λ u n. with_phase_other st.phases t u Done n in
-      let later : (u : ℕ) → is_done st u ≡ true → is_done st' u ≡ true = λ u y. finish_adds c set st so t h u ∙ or_left (is_done st u) (u == t) y in
+      let later : (u : ℕ) → is_done st u ≡ true → is_done st' u ≡ true =
+      λ u y. finish_adds c set st so t h u ∙ or_left (is_done st u) (u == t) y in
       let begun : (u : ℕ) → phase_in st'.phases u ≢ Idle → stands_in (activated_tasks c st') u ≡ true =
       λ u n. ⊎_elim (λ e. rw e (finishes_front c set st so t h)) (λ m. so.activated u (λ z. n (other u m ∙ z))) (cases_eq u t) in
       record {
         phases = length-with_phase st.phases t Done ∙ so.phases;
         prefix = so.prefix;
         activated = begun;
-        ready = λ u n. more c.system (is_done st) (is_done st') u later (⊎_elim (λ e. rw e (so.ready t (busy h.running))) (λ m. so.ready u (λ z. n (other u m ∙ z))) (cases_eq u t));
+        ready = λ u n. more c.system (is_done st) (is_done st') u later
+            (⊎_elim (λ e. rw e (so.ready t (busy h.running))) (λ m. so.ready u (λ z. n (other u m ∙ z))) (cases_eq u t));
         workers = omega (arith, to.running, so.workers);
         used = used_within c set st' begun;
         booked = omega (arith, to.booked, so.booked, outputs_covered c.system t (set.system.shares t here));
@@ -160,6 +174,7 @@ happen_safe same step more c set st so Start t h = start_task_safe (event_change
 happen_safe same step more c set st so Finish t h = finish_safe (event_change same step) more c set st so t h
 
 -- and so does a whole run
-pub run_safe : Kept → (c : Setting) → IsSetting c → (st : State) → IsSafe c st → (events : List Event) → AreLegal c st events → IsSafe c (state_after_all st events)
+pub run_safe : Kept → (c : Setting) → IsSetting c → (st : State) → IsSafe c st
+    → (events : List Event) → AreLegal c st events → IsSafe c (state_after_all st events)
 run_safe kept c set st so [] h = so
 run_safe kept c set st so (e ∷ es) h = run_safe kept c set (state_after st e.kind e.task) (kept c set st so e.kind e.task h.0) es h.1

@@ -1,5 +1,6 @@
 -- Sums of sizes stay within the whole.
-use Rattle.std.proofs.Common.{◌≡◌, ℕ, ◌+◌, ◌-◌, ◌<◌, ◌≤◌, Bool, true, cond, List, length, take, get_or, sym, ap, subst, arith, ◌∙◌, Option, Some, None}
+use Rattle.std.proofs.Common.{◌≡◌, ℕ, ◌+◌, ◌-◌, ◌<◌, ◌≤◌, Bool, true, cond, List, length, take}
+use Rattle.std.proofs.Common.{get_or, sym, ap, subst, arith, ◌∙◌, Option, Some, None}
 use Rattle.std.specs.Prelude.{All}
 use Rattle.std.specs.List.{sum_by}
 use Rattle.std.proofs.lemmas.Bool.{eqb-true}
@@ -9,7 +10,8 @@ use Rattle.mp_system.specs.declared.system.Item.{Item}
 use Rattle.std.proofs.lemmas.List.{get_or_default}
 use Rattle.std.proofs.lemmas.List.Elements.{All-get_or}
 use Rattle.mp_system.specs.declared.system.Task.{Task}
-use Rattle.mp_system.specs.System.{TaskSystem, IsSystem, IsTask, IsItemWithin, IsTaskWithin, HasShare, is_named, task_at, is_input, is_output, inputs_of, outputs_of, size_if, size_where, item_size}
+use Rattle.mp_system.specs.System.{TaskSystem, IsSystem, IsTask, IsItemWithin, IsTaskWithin, HasShare, is_named, task_at}
+use Rattle.mp_system.specs.System.{is_input, is_output, inputs_of, outputs_of, size_if, size_where, item_size}
 use Rattle.activation.specs.Schedule.{task_entry}
 use Rattle.activation.proofs.Numbers.{number_at}
 use Rattle.mp_system.proofs.Sums.{size_if-le, size_where-le}
@@ -31,12 +33,14 @@ pub record TaskFacts (s : TaskSystem) (task : Task) (k : ℕ) : Type 0 where
   pub few_inputs : inputs_of s (k + 1) ≤ most_total
   pub few_outputs : outputs_of s (k + 1) ≤ most_total
 
-pub task_facts : (s : TaskSystem) → IsSystem s → (tasks : List Task) → tasks ≡ s.tasks → (k : ℕ) (d : Task) → k < length tasks → TaskFacts s (get_or tasks k d) k
+pub task_facts : (s : TaskSystem) → IsSystem s → (tasks : List Task) → tasks ≡ s.tasks
+    → (k : ℕ) (d : Task) → k < length tasks → TaskFacts s (get_or tasks k d) k
 task_facts s sys tasks same k d w =
     let w' : k < length s.tasks = omega (arith, ap length same) in
     let e : k + 1 - 1 ≡ k = omega arith in
     let is : task_at s (k + 1) ≡ get_or tasks k d =
-    ap (λ j. get_or s.tasks j (record { extra = 0; share = 0; time = 0 })) e ∙ get_or_default s.tasks k (record { extra = 0; share = 0; time = 0 }) d w' ∙ ap (λ ts. get_or ts k d) (sym same) in
+    ap (λ j. get_or s.tasks j (record { extra = 0; share = 0; time = 0 })) e
+    ∙ get_or_default s.tasks k (record { extra = 0; share = 0; time = 0 }) d w' ∙ ap (λ ts. get_or ts k d) (sym same) in
     let kept = All-get_or IsTaskWithin s.tasks k d w' sys.tasks in
     let kept' : IsTaskWithin (get_or tasks k d) = subst (λ ts. IsTaskWithin (get_or ts k d)) (sym same) kept in
     let shares : HasShare s (k + 1) = sys.shares (k + 1) (omega arith, omega arith) in
@@ -52,7 +56,8 @@ task_facts s sys tasks same k d w =
     }
 
 -- a table of places is one of tasks
-pub of_task : (P : ℕ → ℕ → Type 0) (xs : List ℕ) (n : ℕ) → ((k : ℕ) → k < n → P (get_or xs k 0) (k + 1)) → (t : ℕ) → 1 ≤ t → t ≤ n → P (task_entry xs t) t
+pub of_task : (P : ℕ → ℕ → Type 0) (xs : List ℕ) (n : ℕ)
+    → ((k : ℕ) → k < n → P (get_or xs k 0) (k + 1)) → (t : ℕ) → 1 ≤ t → t ≤ n → P (task_entry xs t) t
 of_task P xs n all t low high =
     let e : t - 1 + 1 ≡ t = omega arith in
     let h = all (t - 1) (omega arith) in

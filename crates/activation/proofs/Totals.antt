@@ -1,5 +1,6 @@
 -- Sums over a list whose terms change at one element, and counts in a list's front.
-use Rattle.std.proofs.Common.{◌≡◌, ◌≢◌, ℕ, ◌+◌, ◌*◌, ◌<◌, Bool, true, cond, List, [], ◌∷◌, ◌++◌, length, get_or, refl, sym, ◌∙◌, ap, arith, ⊎_elim, zero-add}
+use Rattle.std.proofs.Common.{◌≡◌, ◌≢◌, ℕ, ◌+◌, ◌*◌, ◌<◌, Bool, true, cond, List, [], ◌∷◌, ◌++◌}
+use Rattle.std.proofs.Common.{length, get_or, refl, sym, ◌∙◌, ap, arith, ⊎_elim, zero-add}
 use Rattle.std.specs.Prelude.{sum_by, count_by, ◌==◌}
 use Rattle.std.specs.List.{list_any}
 use Rattle.std.proofs.lemmas.List.{get_or_read}
@@ -12,10 +13,12 @@ pub count_yes : (x t : ℕ) (xs : List ℕ) → x ≡ t → count_by (λ y. y ==
 count_yes x t xs e = sum_by-cons (λ y. cond (y == t) 1 0) x xs ∙ ap (λ (b : Bool). cond b 1 0 + count_by (λ y. y == t) xs) (eq-eqb x t e)
 
 pub count_no : (x t : ℕ) (xs : List ℕ) → x ≢ t → count_by (λ y. y == t) (x ∷ xs) ≡ count_by (λ y. y == t) xs
-count_no x t xs n = sum_by-cons (λ y. cond (y == t) 1 0) x xs ∙ ap (λ (b : Bool). cond b 1 0 + count_by (λ y. y == t) xs) (ne_eqb x t n) ∙ zero-add (count_by (λ y. y == t) xs)
+count_no x t xs n = sum_by-cons (λ y. cond (y == t) 1 0) x xs
+    ∙ ap (λ (b : Bool). cond b 1 0 + count_by (λ y. y == t) xs) (ne_eqb x t n) ∙ zero-add (count_by (λ y. y == t) xs)
 
 -- the terms change at t alone
-pub sum_changed : (f g : ℕ → ℕ) (t : ℕ) → ((x : ℕ) → x ≢ t → f x ≡ g x) → (xs : List ℕ) → sum_by f xs + count_by (λ x. x == t) xs * g t ≡ sum_by g xs + count_by (λ x. x == t) xs * f t
+pub sum_changed : (f g : ℕ → ℕ) (t : ℕ) → ((x : ℕ) → x ≢ t → f x ≡ g x) → (xs : List ℕ)
+    → sum_by f xs + count_by (λ x. x == t) xs * g t ≡ sum_by g xs + count_by (λ x. x == t) xs * f t
 sum_changed f g t same [] = omega arith
 sum_changed f g t same (x ∷ xs) =
     let ih = sum_changed f g t same xs in
@@ -65,7 +68,8 @@ pub in_more : (xs ys : List ℕ) (t : ℕ) → list_any (λ x. x == t) xs ≡ tr
 in_more xs ys t h = list_any-append (λ x. x == t) xs ys ∙ or_left (list_any (λ x. x == t) xs) (list_any (λ x. x == t) ys) h
 
 -- the terms change at t alone, which stands once in the list
-pub sum_changed_once : (f g : ℕ → ℕ) (t : ℕ) → ((x : ℕ) → x ≢ t → f x ≡ g x) → (xs : List ℕ) → count_by (λ x. x == t) xs ≡ 1 → sum_by f xs + g t ≡ sum_by g xs + f t
+pub sum_changed_once : (f g : ℕ → ℕ) (t : ℕ) → ((x : ℕ) → x ≢ t → f x ≡ g x)
+    → (xs : List ℕ) → count_by (λ x. x == t) xs ≡ 1 → sum_by f xs + g t ≡ sum_by g xs + f t
 sum_changed_once f g t same xs one =
     let e = sum_changed f g t same xs in
     let a : count_by (λ x. x == t) xs * g t ≡ 1 * g t = ap (λ n. n * g t) one in

@@ -8,7 +8,8 @@ use Rattle.assembly_tree.specs.Supernodes.{last_of}
 use Rattle.assembly_tree.proofs.RunLemmas.{last-more, last-le, last-within, last-all}
 
 module _ (supers : List Super) (each : (s : ℕ) → IsSuper supers s → IsSuperWithin supers s) where
-  rest_fits : (fuel s : ℕ) → length supers ≤ s + fuel → IsSuper supers s → (super_at supers s).rest + last_of supers s ≤ last_of supers (length supers)
+  rest_fits : (fuel s : ℕ) → length supers ≤ s + fuel → IsSuper supers s
+      → (super_at supers s).rest + last_of supers s ≤ last_of supers (length supers)
   rest_fits zero s le is =
       elim (cases_eq (super_at supers s).parent 0) [
         | inl none ↦ omega (arith, (each s is).root none, last-within supers s)
@@ -22,7 +23,13 @@ module _ (supers : List Super) (each : (s : ℕ) → IsSuper supers s → IsSupe
             let above = (each s is).parent (omega (arith, some)) in
             let rest = (each s is).rest (omega (arith, some)) in
             let later = rest_fits fuel p (omega (arith, above.0, le)) (omega (arith, above.0), above.1) in
-            omega (arith, rest, later, last-more supers p (omega (arith, above.0)) above.1, last-le supers s (p - 1) (omega (arith, above.0)))
+            omega (
+              arith,
+              rest,
+              later,
+              last-more supers p (omega (arith, above.0)) above.1,
+              last-le supers s (p - 1) (omega (arith, above.0)),
+            )
             )
       ]
 

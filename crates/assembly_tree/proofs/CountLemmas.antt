@@ -1,8 +1,10 @@
 -- The counts of the fill: all that stands in a column but the column itself stands in its parent.
-use Rattle.std.proofs.Common.{◌≡◌, ◌⊎◌, ◌↔◌, ℕ, zero, suc, ◌+◌, ◌-◌, ◌<◌, ◌≤◌, Bool, true, false, cond, IsTrue, length, get_or, refl, sym, ap, ◌∙◌, inl, inr, arith}
+use Rattle.std.proofs.Common.{◌≡◌, ◌⊎◌, ◌↔◌, ℕ, zero, suc, ◌+◌, ◌-◌, ◌<◌, ◌≤◌, Bool, true, false}
+use Rattle.std.proofs.Common.{cond, IsTrue, length, get_or, refl, sym, ap, ◌∙◌, inl, inr, arith}
 use Rattle.std.specs.List.{count_by, range_with_len}
 use Rattle.std.proofs.lemmas.List.Sums.{get_or-le-sum_by}
-use Rattle.std.proofs.lemmas.List.FromFn.{length-range_with_len, length-map-range_with_len, get_or-range_with_len, get_or-map-range_with_len}
+use Rattle.std.proofs.lemmas.List.FromFn.{length-range_with_len, length-map-range_with_len}
+use Rattle.std.proofs.lemmas.List.FromFn.{get_or-range_with_len, get_or-map-range_with_len}
 use Rattle.std.proofs.lemmas.Bool.{cases_eq, cases_Bool, eq-eqb}
 use Rattle.permutations.specs.Perm.{IsVertex}
 use Rattle.ordering.specs.Fill.{IsAdjacency, IsParent, structure_of, parent_of, count_of, parents_of, counts_of}
@@ -17,7 +19,9 @@ bit b = cond b 1 0
 -- ---- counts over 1 to n
 
 -- what passes p passes q, but for v
-count_but : (p q : ℕ → Bool) (v m : ℕ) → ((i : ℕ) → i ≤ m → p i ≡ true → (i ≡ v) ⊎ (q i ≡ true)) → (n : ℕ) → n ≤ m → (n < v → count_by p (range_with_len 1 n) ≤ count_by q (range_with_len 1 n)) × (count_by p (range_with_len 1 n) ≤ count_by q (range_with_len 1 n) + 1)
+count_but : (p q : ℕ → Bool) (v m : ℕ) → ((i : ℕ) → i ≤ m → p i ≡ true → (i ≡ v) ⊎ (q i ≡ true)) → (n : ℕ) → n ≤ m
+    → (n < v → count_by p (range_with_len 1 n) ≤ count_by q (range_with_len 1 n))
+    × (count_by p (range_with_len 1 n) ≤ count_by q (range_with_len 1 n) + 1)
 count_but p q v m each zero le = (λ lt. omega arith, omega arith)
 count_but p q v m each (suc n) le =
     let before = count_but p q v m each n (omega (arith, le)) in
@@ -49,7 +53,8 @@ count_never (suc n) =
 count_some : (p : ℕ → Bool) (n v : ℕ) → IsVertex n v → p v ≡ true → 1 ≤ count_by p (range_with_len 1 n)
 count_some p n v is passes =
     let lt : v - 1 < length (range_with_len 1 n) = omega (arith, length-range_with_len 1 n, is.0, is.1) in
-    let here : get_or (range_with_len 1 n) (v - 1) 0 ≡ v = get_or-range_with_len 1 n (v - 1) 0 (omega (arith, is.0, is.1)) ∙ (let e : 1 + (v - 1) ≡ v = omega (arith, is.0) in e) in
+    let here : get_or (range_with_len 1 n) (v - 1) 0 ≡ v =
+    get_or-range_with_len 1 n (v - 1) 0 (omega (arith, is.0, is.1)) ∙ (let e : 1 + (v - 1) ≡ v = omega (arith, is.0) in e) in
     let one : bit (p (get_or (range_with_len 1 n) (v - 1) 0)) ≡ 1 = ap (λ (k : ℕ). bit (p k)) here ∙ ap bit passes in
     omega (arith, get_or-le-sum_by (λ i. bit (p i)) (range_with_len 1 n) (v - 1) 0 lt, one)
 
@@ -62,12 +67,14 @@ abbrev pub ParentsAreFirst : Type 0
 ParentsAreFirst = (joined : ℕ → ℕ → Bool) (n j : ℕ) → IsParent joined n j (parent_of joined n j)
 
 abbrev pub StructuresByChildren : Type 0
-StructuresByChildren = (joined : ℕ → ℕ → Bool) (n j i : ℕ) → IsAdjacency joined → IsWithin n joined → IsVertex n j → IsTrue (structure_of joined j i) ↔ IsInherited joined n j i
+StructuresByChildren = (joined : ℕ → ℕ → Bool) (n j i : ℕ) → IsAdjacency joined
+    → IsWithin n joined → IsVertex n j → IsTrue (structure_of joined j i) ↔ IsInherited joined n j i
 
 abbrev pub NoEarlierRows : Type 0
 NoEarlierRows = (joined : ℕ → ℕ → Bool) (j i : ℕ) → IsTrue (structure_of joined j i) → j ≤ i
 
-module _ (firsts : ParentsAreFirst) (by_children : StructuresByChildren) (later : NoEarlierRows) (joined : ℕ → ℕ → Bool) (n : ℕ) (pattern : IsAdjacency joined) (inside : IsWithin n joined) where
+module _ (firsts : ParentsAreFirst) (by_children : StructuresByChildren) (later : NoEarlierRows)
+    (joined : ℕ → ℕ → Bool) (n : ℕ) (pattern : IsAdjacency joined) (inside : IsWithin n joined) where
   own : (j : ℕ) → structure_of joined j j ≡ true
   own j = rw (eq-eqb j j refl) refl
 
@@ -109,7 +116,8 @@ module _ (firsts : ParentsAreFirst) (by_children : StructuresByChildren) (later 
               root = λ nil. count ∙ of_root j vertex (sym parent ∙ nil);
               child = λ some. (
                   let reached = (firsts joined n j).reached (omega (arith, some, parent)) in
-                  let of_parent = ap (count_at (counts_of joined n)) parent ∙ count-listed joined n (parent_of joined n j) (omega (arith, reached.0), reached.1) in
+                  let of_parent = ap (count_at (counts_of joined n)) parent
+                  ∙ count-listed joined n (parent_of joined n j) (omega (arith, reached.0), reached.1) in
                   omega (arith, count, of_parent, of_child j vertex (omega (arith, some, parent)))
                   );
             }

@@ -1,5 +1,6 @@
 -- The fronts of an assembly tree are a tree within the limits.
-use Rattle.std.proofs.Common.{◌*◌, ◌≡◌, ℕ, zero, suc, ◌+◌, ◌-◌, ◌<◌, ◌≤◌, Bool, true, false, cond, eqb, max, List, [], ◌∷◌, length, get_or, take, map, filter, fold, refl, sym, ap, ◌∙◌, subst, inl, inr, arith, All}
+use Rattle.std.proofs.Common.{◌*◌, ◌≡◌, ℕ, zero, suc, ◌+◌, ◌-◌, ◌<◌, ◌≤◌, Bool, true, false, cond, eqb, max, List, [], ◌∷◌}
+use Rattle.std.proofs.Common.{length, get_or, take, map, filter, fold, refl, sym, ap, ◌∙◌, subst, inl, inr, arith, All}
 use Rattle.std.specs.List.{sum_by, range_with_len}
 use Rattle.std.proofs.lemmas.List.{get_or_default, same_lists, take_all}
 use Rattle.std.proofs.lemmas.List.Elements.{All-filter, All-map, filter_passes}
@@ -60,18 +61,24 @@ squares-third (suc n) = omega (arith, squares-third n)
 -- the fronts of a matrix are within the limit of all sizes together
 squares-small : (n : ℕ) → n ≤ most_order → squares n ≤ most_total
 squares-small n le =
-    omega (arith, squares-third n, mul-le (n * n) (n + 2) (most_order * most_order) (most_order + 2) (mul-le n n most_order most_order le le) (omega arith))
+    omega (
+      arith,
+      squares-third n,
+      mul-le (n * n) (n + 2) (most_order * most_order) (most_order + 2) (mul-le n n most_order most_order le le) (omega arith),
+    )
 
 -- ---- lists by number
 
-pub map-range_same : {X : Type 0} (f g : ℕ → X) (n : ℕ) → ((s : ℕ) → 1 ≤ s → s ≤ n → f s ≡ g s) → map f (range_with_len 1 n) ≡ map g (range_with_len 1 n)
+pub map-range_same : {X : Type 0} (f g : ℕ → X) (n : ℕ) → ((s : ℕ) → 1 ≤ s → s ≤ n → f s ≡ g s)
+    → map f (range_with_len 1 n) ≡ map g (range_with_len 1 n)
 map-range_same {X} f g n same =
     let lf = length-map-range_with_len f 1 n in
     let lg = length-map-range_with_len g 1 n in
     same_lists (map f (range_with_len 1 n)) (map g (range_with_len 1 n)) (lf ∙ sym lg) (λ k d lt.
     let in_range : k < n = omega (arith, lt, lf) in
     let at : 1 + k ≡ suc k = omega arith in
-    get_or-map-range_with_len f 1 n k (suc k) d in_range at ∙ same (suc k) (omega arith) (omega arith) ∙ sym (get_or-map-range_with_len g 1 n k (suc k) d in_range at))
+    get_or-map-range_with_len f 1 n k (suc k) d in_range at ∙ same (suc k) (omega arith) (omega arith)
+    ∙ sym (get_or-map-range_with_len g 1 n k (suc k) d in_range at))
 
 -- ---- shares
 
@@ -82,15 +89,24 @@ max-le-sum (x ∷ xs) a = omega (arith, max-le-sum xs (max a x), sum_by-cons (λ
 
 max-le-each : (m : ℕ) (xs : List ℕ) (a : ℕ) → a ≤ m → All (λ x. x ≤ m) xs → fold max a xs ≤ m
 max-le-each m [] a le each = le
-max-le-each m (x ∷ xs) a le each = max-le-each m xs (max a x) (max-le le (each zero 0 (omega arith))) (λ k d lt. each (suc k) d (omega arith))
+max-le-each m (x ∷ xs) a le each =
+    max-le-each m xs (max a x) (max-le le (each zero 0 (omega arith))) (λ k d lt. each (suc k) d (omega arith))
 
-share-sum : (shape : Shape) (p : Super → Bool) (xs : List Super) → fold max 0 (map (block_of shape) (filter p xs)) ≤ sum_by (λ x. cond (p x) (block_of shape x) 0) xs
-share-sum shape p xs = omega (arith, max-le-sum (map (block_of shape) (filter p xs)) 0, sum-map (block_of shape) (filter p xs), sum_by-filter (block_of shape) p xs)
+share-sum : (shape : Shape) (p : Super → Bool) (xs : List Super)
+    → fold max 0 (map (block_of shape) (filter p xs)) ≤ sum_by (λ x. cond (p x) (block_of shape x) 0) xs
+share-sum shape p xs = omega (
+  arith,
+  max-le-sum (map (block_of shape) (filter p xs)) 0,
+  sum-map (block_of shape) (filter p xs),
+  sum_by-filter (block_of shape) p xs,
+)
 
-share-bound : (shape : Shape) (p : Super → Bool) (m : ℕ) (xs : List Super) → All (λ x. p x ≡ true → block_of shape x ≤ m) xs → fold max 0 (map (block_of shape) (filter p xs)) ≤ m
+share-bound : (shape : Shape) (p : Super → Bool) (m : ℕ) (xs : List Super)
+    → All (λ x. p x ≡ true → block_of shape x ≤ m) xs → fold max 0 (map (block_of shape) (filter p xs)) ≤ m
 share-bound shape p m xs each =
     let passing = All-filter p (λ (x : Super). p x ≡ true → block_of shape x ≤ m) xs each in
-    max-le-each m (map (block_of shape) (filter p xs)) 0 (omega arith) (All-map (λ (k : ℕ). k ≤ m) (block_of shape) (filter p xs) (λ k d lt. passing k d lt (filter_passes p xs k d lt)))
+    max-le-each m (map (block_of shape) (filter p xs)) 0 (omega arith)
+    (All-map (λ (k : ℕ). k ≤ m) (block_of shape) (filter p xs) (λ k d lt. passing k d lt (filter_passes p xs k d lt)))
 
 -- ---- ways up
 
@@ -99,7 +115,10 @@ unfolding ancestor
 ancestor-none nodes zero = refl
 ancestor-none nodes (suc k) = ancestor-none nodes k
 
-pub rising_leads : (nodes : List Node) → ((v : ℕ) → IsNode nodes v → 0 < (node_at nodes v).parent → (v < (node_at nodes v).parent) × ((node_at nodes v).parent ≤ length nodes)) → (k v : ℕ) → IsNode nodes v → length nodes < v + k → ancestor nodes k v ≡ 0
+pub rising_leads : (nodes : List Node)
+    → ((v : ℕ) → IsNode nodes v → 0 < (node_at nodes v).parent
+    → (v < (node_at nodes v).parent) × ((node_at nodes v).parent ≤ length nodes))
+    → (k v : ℕ) → IsNode nodes v → length nodes < v + k → ancestor nodes k v ≡ 0
 unfolding ancestor
 rising_leads nodes rising zero v is far = absurd (omega (arith, is.1, far))
 rising_leads nodes rising (suc k) zero is far = absurd (omega (arith, is.0))
@@ -118,14 +137,23 @@ module _ (shape : Shape) (inplace : Bool) (assembly : AssemblyTree) (is : IsAsse
   len : length (nodes_of_fronts shape inplace assembly.supers) ≡ length assembly.supers
   len = length-map-range_with_len (front_at shape inplace assembly.supers) 1 (length assembly.supers)
 
-  at : (i : ℕ) (d : Node) → i < length assembly.supers → get_or (nodes_of_fronts shape inplace assembly.supers) i d ≡ front_at shape inplace assembly.supers (1 + i)
+  at : (i : ℕ) (d : Node) → i < length assembly.supers
+      → get_or (nodes_of_fronts shape inplace assembly.supers) i d ≡ front_at shape inplace assembly.supers (1 + i)
   at i d lt = get_or-map-range_with_len (front_at shape inplace assembly.supers) 1 (length assembly.supers) i (1 + i) d lt refl
 
-  at_node : (v : ℕ) → IsSuper assembly.supers v → node_at (nodes_of_fronts shape inplace assembly.supers) v ≡ front_at shape inplace assembly.supers v
-  at_node v h = (let back : 1 + (v - 1) ≡ v = omega (arith, h.0) in at (v - 1) _ (omega (arith, h.0, h.1)) ∙ ap (front_at shape inplace assembly.supers) back)
+  at_node : (v : ℕ) → IsSuper assembly.supers v
+      → node_at (nodes_of_fronts shape inplace assembly.supers) v ≡ front_at shape inplace assembly.supers v
+  at_node v h =
+      (let back : 1 + (v - 1) ≡ v = omega (arith, h.0) in
+      at (v - 1) _ (omega (arith, h.0, h.1)) ∙ ap (front_at shape inplace assembly.supers) back)
 
   supers-few : length assembly.supers ≤ length assembly.nodes
-  supers-few = omega (arith, supers-le assembly.supers (length assembly.supers) (λ k h. (is.each k h).some) (omega arith), last-all assembly.supers, is.total)
+  supers-few = omega (
+    arith,
+    supers-le assembly.supers (length assembly.supers) (λ k h. (is.each k h).some) (omega arith),
+    last-all assembly.supers,
+    is.total,
+  )
 
   few : length assembly.supers ≤ most_order
   few = omega (arith, supers-few, is.few)
@@ -134,7 +162,10 @@ module _ (shape : Shape) (inplace : Bool) (assembly : AssemblyTree) (is : IsAsse
   some = (let first = is.nodes 1 (omega arith, is.some) in omega (arith, first.0, first.1))
 
   inside : (s : ℕ) → IsSuper assembly.supers s → (super_at assembly.supers s).parent ≤ length assembly.supers
-  inside s h = elim (cases_eq (super_at assembly.supers s).parent 0) [ inl root ↦ omega (arith, root) | inr child ↦ ((is.each s h).parent (omega (arith, child))).1 ]
+  inside s h = elim (cases_eq (super_at assembly.supers s).parent 0) [
+    | inl root ↦ omega (arith, root)
+    | inr child ↦ ((is.each s h).parent (omega (arith, child))).1
+  ]
 
   small : (s : ℕ) → IsSuper assembly.supers s → kept_entries shape (front_of (super_at assembly.supers s)) ≤ most_size
   small s h = size-small shape (front_of (super_at assembly.supers s)) (omega (arith, is.fits s h, is.few))
@@ -150,7 +181,14 @@ module _ (shape : Shape) (inplace : Bool) (assembly : AssemblyTree) (is : IsAsse
   rows_root : (s : ℕ) → IsSuper assembly.supers s → (super_at assembly.supers s).parent ≡ 0
       → front_of (super_at assembly.supers s) + last_of assembly.supers (s - 1) ≤ length assembly.nodes
   rows_root s h root =
-      omega (arith, last-more assembly.supers s h.0 h.1, (is.each s h).root root, last-within assembly.supers s, last-all assembly.supers, is.total)
+      omega (
+        arith,
+        last-more assembly.supers s h.0 h.1,
+        (is.each s h).root root,
+        last-within assembly.supers s,
+        last-all assembly.supers,
+        is.total,
+      )
 
   rows_below : (s p : ℕ) → IsSuper assembly.supers s → s < p → (super_at assembly.supers s).rest ≤ front_of (super_at assembly.supers p)
       → front_of (super_at assembly.supers p) + last_of assembly.supers (p - 1) ≤ length assembly.nodes
@@ -190,11 +228,16 @@ module _ (shape : Shape) (inplace : Bool) (assembly : AssemblyTree) (is : IsAsse
   size_left : (k : ℕ) → k < length assembly.supers
       → node_size (front_at shape inplace assembly.supers (1 + k)) ≤ (length assembly.nodes - k) * (length assembly.nodes - k)
   size_left k lt =
-      omega (arith, size-square shape (front_of (super_at assembly.supers (1 + k))) (length assembly.nodes - k) (front_left k lt), below (1 + k))
+      omega (
+        arith,
+        size-square shape (front_of (super_at assembly.supers (1 + k))) (length assembly.nodes - k) (front_left k lt),
+        below (1 + k),
+      )
 
   -- the first k fronts, and what those of one column each would take from there on
   sum_left : (k : ℕ) → k ≤ length assembly.supers
-      → sum_by node_size (take k (nodes_of_fronts shape inplace assembly.supers)) + squares (length assembly.nodes - k) ≤ squares (length assembly.nodes)
+      → sum_by node_size (take k (nodes_of_fronts shape inplace assembly.supers)) + squares (length assembly.nodes - k)
+      ≤ squares (length assembly.nodes)
   sum_left zero le = let all : length assembly.nodes - 0 ≡ length assembly.nodes = omega arith in omega (arith, ap squares all)
   sum_left (suc k) le =
       let nodes = nodes_of_fronts shape inplace assembly.supers in
@@ -213,25 +256,35 @@ module _ (shape : Shape) (inplace : Bool) (assembly : AssemblyTree) (is : IsAsse
         squares-step (length assembly.nodes - k) (length assembly.nodes - suc k) left,
       )
 
-  outs : (s : ℕ) → children_out (nodes_of_fronts shape inplace assembly.supers) s ≡ sum_by (λ x. cond (eqb x.parent s) (block_of shape x) 0) assembly.supers
+  outs : (s : ℕ)
+      → children_out (nodes_of_fronts shape inplace assembly.supers) s
+      ≡ sum_by (λ x. cond (eqb x.parent s) (block_of shape x) 0) assembly.supers
   outs s =
       let g = λ (x : Super). cond (eqb x.parent s) (block_of shape x) 0 in
-      sum_by-map (out_below s) (front_at shape inplace assembly.supers) (range_with_len 1 (length assembly.supers)) ∙ sym (sum_by-map g (super_at assembly.supers) (range_with_len 1 (length assembly.supers))) ∙ ap (sum_by g) (supers-range assembly.supers)
+      sum_by-map (out_below s) (front_at shape inplace assembly.supers) (range_with_len 1 (length assembly.supers))
+      ∙ sym (sum_by-map g (super_at assembly.supers) (range_with_len 1 (length assembly.supers)))
+      ∙ ap (sum_by g) (supers-range assembly.supers)
 
-  share : (s : ℕ) → IsSuper assembly.supers s → (cond inplace (share_of shape assembly.supers s) 0 ≤ children_out (nodes_of_fronts shape inplace assembly.supers) s) × (cond inplace (share_of shape assembly.supers s) 0 ≤ kept_entries shape (front_of (super_at assembly.supers s)))
+  share : (s : ℕ) → IsSuper assembly.supers s
+      → (cond inplace (share_of shape assembly.supers s) 0 ≤ children_out (nodes_of_fronts shape inplace assembly.supers) s)
+      × (cond inplace (share_of shape assembly.supers s) 0 ≤ kept_entries shape (front_of (super_at assembly.supers s)))
   share s h =
       let sum = share-sum shape (λ x. eqb x.parent s) assembly.supers in
-      let bound = share-bound shape (λ x. eqb x.parent s) (kept_entries shape (front_of (super_at assembly.supers s))) assembly.supers (λ k d lt passes.
+      let bound = share-bound shape (λ x. eqb x.parent s)
+      (kept_entries shape (front_of (super_at assembly.supers s))) assembly.supers (λ k d lt passes.
       let c = number k lt in
       let back : 1 + k - 1 ≡ k = omega arith in
-      let here : super_at assembly.supers (1 + k) ≡ get_or assembly.supers k d = ap (λ (i : ℕ). get_or assembly.supers i no_super) back ∙ get_or_default assembly.supers k no_super d lt in
-      let up : (super_at assembly.supers (1 + k)).parent ≡ s = ap (λ (x : Super). x.parent) here ∙ eqb-true (get_or assembly.supers k d).parent s passes in
+      let here : super_at assembly.supers (1 + k) ≡ get_or assembly.supers k d =
+      ap (λ (i : ℕ). get_or assembly.supers i no_super) back ∙ get_or_default assembly.supers k no_super d lt in
+      let up : (super_at assembly.supers (1 + k)).parent ≡ s =
+      ap (λ (x : Super). x.parent) here ∙ eqb-true (get_or assembly.supers k d).parent s passes in
       let rest = (is.each (1 + k) c).rest (omega (arith, up, h.0)) in
       let parent = ap (λ (i : ℕ). front_of (super_at assembly.supers i)) up in
       let child = ap (λ (x : Super). x.rest) here in
       size-le shape (get_or assembly.supers k d).rest (front_of (super_at assembly.supers s)) (omega (arith, rest, parent, child))) in
       let whole = outs s in
-      elim inplace as (λ b. (cond b (share_of shape assembly.supers s) 0 ≤ children_out (nodes_of_fronts shape inplace assembly.supers) s) × (cond b (share_of shape assembly.supers s) 0 ≤ kept_entries shape (front_of (super_at assembly.supers s)))) [
+      elim inplace as (λ b. (cond b (share_of shape assembly.supers s) 0 ≤ children_out (nodes_of_fronts shape inplace assembly.supers) s)
+      × (cond b (share_of shape assembly.supers s) 0 ≤ kept_entries shape (front_of (super_at assembly.supers s)))) [
         | true ↦ (omega (arith, sum, whole), bound)
         | false ↦ (omega arith, omega arith)
       ]
@@ -263,33 +316,43 @@ module _ (shape : Shape) (inplace : Bool) (assembly : AssemblyTree) (is : IsAsse
         let super_w : IsSuper assembly.supers w = (node.0, omega (arith, node.1, len)) in
         let up = ap (λ (x : Node). x.parent) (at_node w super_w) in
         let above = (is.each w super_w).parent (omega (arith, up, some)) in
-        (omega (arith, up, above.0), omega (arith, up, above.1, len))) (length (nodes_of_fronts shape inplace assembly.supers)) v h (omega (arith, h.0))
+        (omega (arith, up, above.0), omega (arith, up, above.1, len)))
+        (length (nodes_of_fronts shape inplace assembly.supers)) v h (omega (arith, h.0))
         );
     shares = λ v h. (
         let in_range : IsSuper assembly.supers v = (h.0, omega (arith, h.1, len)) in
         let here = at_node v in_range in
-        let fit = share v in_range in
-        (omega (arith, ap (λ (x : Node). x.share) here, fit.0), omega (arith, ap (λ (x : Node). x.share) here, ap node_size here, fit.1, below v))
+        let fit = share v in_range in (
+          omega (arith, ap (λ (x : Node). x.share) here, fit.0),
+          omega (arith, ap (λ (x : Node). x.share) here, ap node_size here, fit.1, below v),
+        )
         );
   }
 
-pub parents_inside : (assembly : AssemblyTree) → IsAssembly assembly → All (λ (x : Super). x.parent ≤ length assembly.supers) assembly.supers
+pub parents_inside : (assembly : AssemblyTree) → IsAssembly assembly
+    → All (λ (x : Super). x.parent ≤ length assembly.supers) assembly.supers
 parents_inside assembly is k d lt =
     let back : 1 + k - 1 ≡ k = omega arith in
-    let here : (super_at assembly.supers (1 + k)).parent ≡ (get_or assembly.supers k d).parent = ap (λ (i : ℕ). (get_or assembly.supers i no_super).parent) back ∙ ap (λ (x : Super). x.parent) (get_or_default assembly.supers k no_super d lt) in
+    let here : (super_at assembly.supers (1 + k)).parent ≡ (get_or assembly.supers k d).parent =
+    ap (λ (i : ℕ). (get_or assembly.supers i no_super).parent) back
+    ∙ ap (λ (x : Super). x.parent) (get_or_default assembly.supers k no_super d lt) in
     omega (arith, here, inside Triangle false assembly is (1 + k) (omega arith, omega (arith, lt)))
 
 pub fronts_inside : (assembly : AssemblyTree) → IsAssembly assembly → All (λ (x : Super). front_of x ≤ most_order) assembly.supers
 fronts_inside assembly is k d lt =
     let back : 1 + k - 1 ≡ k = omega arith in
-    let here : front_of (super_at assembly.supers (1 + k)) ≡ front_of (get_or assembly.supers k d) = ap (λ (i : ℕ). front_of (get_or assembly.supers i no_super)) back ∙ ap front_of (get_or_default assembly.supers k no_super d lt) in
+    let here : front_of (super_at assembly.supers (1 + k)) ≡ front_of (get_or assembly.supers k d) =
+    ap (λ (i : ℕ). front_of (get_or assembly.supers i no_super)) back ∙ ap front_of (get_or_default assembly.supers k no_super d lt) in
     omega (arith, here, is.fits (1 + k) (omega arith, omega (arith, lt)), is.few)
 
 pub supers_few : (assembly : AssemblyTree) → IsAssembly assembly → length assembly.supers ≤ most_order
 supers_few assembly is = few Triangle false assembly is
 
 -- the fronts with the shares of a table
-pub fronts_with : (shape : Shape) (inplace : Bool) (supers : List Super) (shares : List ℕ) → ((s : ℕ) → s ≤ length supers → get_or shares s 0 ≡ cond inplace (share_of shape supers s) 0)
-    → map (λ (s : ℕ). front_node shape (get_or shares s 0) (super_at supers s)) (range_with_len 1 (length supers)) ≡ nodes_of_fronts shape inplace supers
+pub fronts_with : (shape : Shape) (inplace : Bool) (supers : List Super) (shares : List ℕ)
+    → ((s : ℕ) → s ≤ length supers → get_or shares s 0 ≡ cond inplace (share_of shape supers s) 0)
+    → map (λ (s : ℕ). front_node shape (get_or shares s 0) (super_at supers s)) (range_with_len 1 (length supers))
+    ≡ nodes_of_fronts shape inplace supers
 fronts_with shape inplace supers shares are =
-    map-range_same (λ (s : ℕ). front_node shape (get_or shares s 0) (super_at supers s)) (front_at shape inplace supers) (length supers) (λ s low high. ap (λ (share : ℕ). front_node shape share (super_at supers s)) (are s high))
+    map-range_same (λ (s : ℕ). front_node shape (get_or shares s 0) (super_at supers s)) (front_at shape inplace supers)
+    (length supers) (λ s low high. ap (λ (share : ℕ). front_node shape share (super_at supers s)) (are s high))

@@ -1,5 +1,6 @@
 -- The supernodes that are left, and their numbers.
-use Rattle.std.proofs.Common.{◌≡◌, ℕ, zero, suc, ◌+◌, ◌-◌, ◌<◌, ◌≤◌, Bool, true, false, not, cond, List, [], ◌∷◌, length, get_or, take, map, filter, sym, ap, ◌∙◌, inl, inr, arith}
+use Rattle.std.proofs.Common.{◌≡◌, ℕ, zero, suc, ◌+◌, ◌-◌, ◌<◌, ◌≤◌, Bool, true, false, not, cond, List}
+use Rattle.std.proofs.Common.{[], ◌∷◌, length, get_or, take, map, filter, sym, ap, ◌∙◌, inl, inr, arith}
 use Rattle.std.specs.List.{sum_by, count_by}
 use Rattle.std.proofs.lemmas.List.{take_all, take-take}
 use Rattle.std.proofs.lemmas.List.Sums.{sum_by-cons, length-filter, sum_by-take-le, count_by_more_yes}
@@ -38,7 +39,8 @@ module _ {X : Type 0} (p : X → Bool) where
   count-cons x xs = sum_by-cons (λ y. cond (p y) 1 0) x xs
 
   -- what passes stands after those before it that pass
-  pub filter-place : (xs : List X) (i : ℕ) (d : X) → i < length xs → p (get_or xs i d) ≡ true → get_or (filter p xs) (count_by p (take i xs)) d ≡ get_or xs i d
+  pub filter-place : (xs : List X) (i : ℕ) (d : X) → i < length xs → p (get_or xs i d) ≡ true
+      → get_or (filter p xs) (count_by p (take i xs)) d ≡ get_or xs i d
   filter-place [] i d lt is = absurd (omega arith)
   filter-place (x ∷ xs) zero d lt is = ap (λ (ys : List X). get_or ys 0 d) (filter-yes x xs is)
   filter-place (x ∷ xs) (suc i) d lt is =
@@ -46,16 +48,19 @@ module _ {X : Type 0} (p : X → Bool) where
       elim (cases_Bool (p x)) [
         | inl here ↦ (
             let count : count_by p (x ∷ take i xs) ≡ suc (count_by p (take i xs)) = omega (arith, count-cons x (take i xs), ap bit here) in
-            ap (λ (k : ℕ). get_or (filter p (x ∷ xs)) k d) count ∙ ap (λ (ys : List X). get_or ys (suc (count_by p (take i xs))) d) (filter-yes x xs here) ∙ rest
+            ap (λ (k : ℕ). get_or (filter p (x ∷ xs)) k d) count
+            ∙ ap (λ (ys : List X). get_or ys (suc (count_by p (take i xs))) d) (filter-yes x xs here) ∙ rest
             )
         | inr other ↦ (
             let count : count_by p (x ∷ take i xs) ≡ count_by p (take i xs) = omega (arith, count-cons x (take i xs), ap bit other) in
-            ap (λ (k : ℕ). get_or (filter p (x ∷ xs)) k d) count ∙ ap (λ (ys : List X). get_or ys (count_by p (take i xs)) d) (filter-no x xs other) ∙ rest
+            ap (λ (k : ℕ). get_or (filter p (x ∷ xs)) k d) count
+            ∙ ap (λ (ys : List X). get_or ys (count_by p (take i xs)) d) (filter-no x xs other) ∙ rest
             )
       ]
 
   -- and each of the filtered list stands somewhere
-  pub filter-pick : (xs : List X) (t : ℕ) (d : X) → t < length (filter p xs) → (i : ℕ) × (i < length xs) × (p (get_or xs i d) ≡ true) × (count_by p (take i xs) ≡ t)
+  pub filter-pick : (xs : List X) (t : ℕ) (d : X) → t < length (filter p xs)
+      → (i : ℕ) × (i < length xs) × (p (get_or xs i d) ≡ true) × (count_by p (take i xs) ≡ t)
   filter-pick [] t d lt = absurd (omega arith)
   filter-pick (x ∷ xs) t d lt =
       elim (cases_Bool (p x)) [
@@ -78,12 +83,15 @@ module _ {X : Type 0} (p : X → Bool) where
 -- ---- numbers
 
 pub number-le : (supers : List Super) (s t : ℕ) → s ≤ t → new_number supers s ≤ new_number supers t
-number-le supers s t le = omega (arith, sum_by-take-le (λ x. cond (is_left x) 1 0) (take t supers) s, ap (count_by is_left) (take-take s t supers le))
+number-le supers s t le =
+    omega (arith, sum_by-take-le (λ x. cond (is_left x) 1 0) (take t supers) s, ap (count_by is_left) (take-take s t supers le))
 
-pub number-left : (supers : List Super) (s : ℕ) → IsSuper supers s → 1 ≤ (super_at supers s).columns → new_number supers s ≡ new_number supers (s - 1) + 1
+pub number-left : (supers : List Super) (s : ℕ) → IsSuper supers s
+    → 1 ≤ (super_at supers s).columns → new_number supers s ≡ new_number supers (s - 1) + 1
 number-left supers s is some =
     let back : s ≡ s - 1 + 1 = omega (arith, is.0) in
-    ap (new_number supers) back ∙ count_by_more_yes is_left supers (s - 1) no_super (omega (arith, is.0, is.1)) (left-some (super_at supers s) some)
+    ap (new_number supers) back
+    ∙ count_by_more_yes is_left supers (s - 1) no_super (omega (arith, is.0, is.1)) (left-some (super_at supers s) some)
 
 pub number-all : (supers : List Super) → new_number supers (length supers) ≡ length (filter is_left supers)
 number-all supers = ap (count_by is_left) (take_all (length supers) supers (omega arith)) ∙ sym (length-filter is_left supers)
@@ -92,20 +100,23 @@ pub number-within : (supers : List Super) (s : ℕ) → s ≤ length supers → 
 number-within supers s le = omega (arith, number-le supers s (length supers) le, number-all supers)
 
 -- a supernode that is left, by its number
-pub left-at : (supers : List Super) (s : ℕ) → IsSuper supers s → 1 ≤ (super_at supers s).columns → get_or (filter is_left supers) (new_number supers s - 1) no_super ≡ super_at supers s
+pub left-at : (supers : List Super) (s : ℕ) → IsSuper supers s → 1 ≤ (super_at supers s).columns
+    → get_or (filter is_left supers) (new_number supers s - 1) no_super ≡ super_at supers s
 left-at supers s is some =
     let place = filter-place is_left supers (s - 1) no_super (omega (arith, is.0, is.1)) (left-some (super_at supers s) some) in
     let back : new_number supers s - 1 ≡ new_number supers (s - 1) = omega (arith, number-left supers s is some) in
     ap (λ (k : ℕ). get_or (filter is_left supers) k no_super) back ∙ place
 
 -- each number is that of one that is left
-pub left-pick : (supers : List Super) (t : ℕ) → 1 ≤ t → t ≤ length (filter is_left supers) → (s : ℕ) × IsSuper supers s × (1 ≤ (super_at supers s).columns) × (new_number supers s ≡ t)
+pub left-pick : (supers : List Super) (t : ℕ) → 1 ≤ t → t ≤ length (filter is_left supers)
+    → (s : ℕ) × IsSuper supers s × (1 ≤ (super_at supers s).columns) × (new_number supers s ≡ t)
 left-pick supers t low high =
     let there = filter-pick is_left supers (t - 1) no_super (omega (arith, low, high)) in
     let i = there.0 in
     let back : i + 1 - 1 ≡ i = omega arith in
     let is : IsSuper supers (i + 1) = (omega arith, omega (arith, there.1)) in
-    let some : 1 ≤ (super_at supers (i + 1)).columns = omega (arith, ap (λ (k : ℕ). (get_or supers k no_super).columns) back, some-left (get_or supers i no_super) there.2) in
+    let some : 1 ≤ (super_at supers (i + 1)).columns =
+    omega (arith, ap (λ (k : ℕ). (get_or supers k no_super).columns) back, some-left (get_or supers i no_super) there.2) in
     (i + 1, is, some, omega (arith, number-left supers (i + 1) is some, ap (new_number supers) back, there.3, low))
 
 -- merged supernodes have no columns

@@ -1,5 +1,6 @@
 -- What amalgamation yields, without its visits.
-use Rattle.std.proofs.Common.{◌≡◌, ◌≢◌, ◌↔◌, ℕ, zero, suc, ◌+◌, ◌-◌, ◌<◌, ◌≤◌, Bool, true, false, not, cond, eqb, ◌&&◌, IsTrue, List, length, get_or, take, map, filter, refl, sym, ap, ◌∙◌, subst, inl, inr, arith}
+use Rattle.std.proofs.Common.{◌≡◌, ◌≢◌, ◌↔◌, ℕ, zero, suc, ◌+◌, ◌-◌, ◌<◌, ◌≤◌, Bool, true, false, not, cond, eqb, ◌&&◌, IsTrue}
+use Rattle.std.proofs.Common.{List, length, get_or, take, map, filter, refl, sym, ap, ◌∙◌, subst, inl, inr, arith}
 use Rattle.std.specs.List.{count_by, range_with_len}
 use Rattle.std.proofs.lemmas.List.FromFn.{take-map-range_with_len}
 use Rattle.std.proofs.lemmas.Simd.{map-map}
@@ -12,7 +13,8 @@ use Rattle.assembly_tree.specs.MergeTables.{IsMerging, AreStanding, stays, gathe
 use Rattle.assembly_tree.proofs.ListLemmas.{filter-map, map_agree, fold_next, sum_of_picked_more, pick_agree, count_agree}
 use Rattle.lists.proofs.Lists.{sum_by-map}
 use Rattle.assembly_tree.proofs.SupernodeLemmas.{same_super, supers-range}
-use Rattle.assembly_tree.proofs.JoinLemmas.{stands_in, stays-root, stays-dear, stays-cheap, merged_each, merged_supers-child, merged_supers-parent, merged_supers-other}
+use Rattle.assembly_tree.proofs.JoinLemmas.{stands_in, stays-root, stays-dear, stays-cheap, merged_each, merged_supers-child}
+use Rattle.assembly_tree.proofs.JoinLemmas.{merged_supers-parent, merged_supers-other}
 use Rattle.assembly_tree.proofs.LeftLemmas.{left-some, left-none}
 use Rattle.assembly_tree.proofs.MergeLemmas.{merging, merging_above}
 use Rattle.assembly_tree.proofs.AmalgamationLemmas.{standing, amalgamated_is, is_node}
@@ -38,7 +40,8 @@ module _ (zeros : ℕ) (a : AssemblyTree) (is : IsAssembly a) where
 
   -- ---- the columns after each visit
 
-  grown-more : (i t : ℕ) → (grown (i + 1) t).columns ≡ (grown i t).columns + cond (goes (i + 1) && eqb (super_at old (i + 1)).parent t) (width (i + 1)) 0
+  grown-more : (i t : ℕ)
+      → (grown (i + 1) t).columns ≡ (grown i t).columns + cond (goes (i + 1) && eqb (super_at old (i + 1)).parent t) (width (i + 1)) 0
   grown-more i t = omega (arith, sum_of_picked_more (λ c. goes c && eqb (super_at old c).parent t) width i)
 
   record Grown (i : ℕ) : Type 0 where
@@ -52,10 +55,12 @@ module _ (zeros : ℕ) (a : AssemblyTree) (is : IsAssembly a) where
     grown_stays : stays zeros (gathered zeros old i) (i + 1) ≡ true → Grown (i + 1)
     grown_stays stay =
         let goes_not : goes (i + 1) ≡ false = chosen ∙ ap not stay in
-        let same : gathered zeros old (i + 1) ≡ gathered zeros old i = fold_next (gathered_at zeros) old i ∙ ap (λ (b : Bool). cond b (gathered zeros old i) (merged_supers (gathered zeros old i) (i + 1) (at i (i + 1)).parent)) stay in
+        let same : gathered zeros old (i + 1) ≡ gathered zeros old i = fold_next (gathered_at zeros) old i
+        ∙ ap (λ (b : Bool). cond b (gathered zeros old i) (merged_supers (gathered zeros old i) (i + 1) (at i (i + 1)).parent)) stay in
         let columns = λ (t : ℕ). ap (λ (xs : List Super). (super_at xs t).columns) same in
         record {
-          kept = λ t h free. columns t ∙ g.kept t h (λ le. free (omega (arith, le))) ∙ sym (rw goes_not at (grown-more i t) ∙ (let e : (grown i t).columns + 0 ≡ (grown i t).columns = omega arith in e));
+          kept = λ t h free. columns t ∙ g.kept t h (λ le. free (omega (arith, le)))
+              ∙ sym (rw goes_not at (grown-more i t) ∙ (let e : (grown i t).columns + 0 ≡ (grown i t).columns = omega arith in e));
           gone = λ t h le go. elim (cases_eq t (i + 1)) [
             | inl e ↦ absurd (false≢true (sym goes_not ∙ ap goes (sym e) ∙ go))
             | inr ne ↦ columns t ∙ g.gone t h (omega (arith, le, ne)) go
@@ -73,7 +78,8 @@ module _ (zeros : ℕ) (a : AssemblyTree) (is : IsAssembly a) where
         let above = merging_above zeros old xs i before lt is.each p up child in
         let is_v : IsSuper xs v = (omega arith, omega (arith, lt, before.len)) in
         let does : goes v ≡ true = chosen ∙ ap not go in
-        let same : gathered zeros old v ≡ merged_supers xs v p = fold_next (gathered_at zeros) old i ∙ ap (λ (b : Bool). cond b xs (merged_supers xs v (super_at xs v).parent)) go ∙ ap (merged_supers xs v) up in
+        let same : gathered zeros old v ≡ merged_supers xs v p = fold_next (gathered_at zeros) old i
+        ∙ ap (λ (b : Bool). cond b xs (merged_supers xs v (super_at xs v).parent)) go ∙ ap (merged_supers xs v) up in
         let columns = λ (t : ℕ). ap (λ (ys : List Super). (super_at ys t).columns) same in
         let more = λ (t : ℕ). rw does at (grown-more i t) in
         let wide : width v ≡ (at i v).columns = (let back : i + 1 - 1 ≡ i = omega arith in ap (λ (k : ℕ). (at k v).columns) back) in
@@ -82,13 +88,31 @@ module _ (zeros : ℕ) (a : AssemblyTree) (is : IsAssembly a) where
         record {
           kept = λ t h. merged_each xs v p is_v above.0 above.1 Kept
               (λ le free. absurd (false≢true (sym (free (omega arith)) ∙ does)))
-              (λ le free. omega (arith, columns p, ap columns_in (merged_supers-parent xs v p is_v above.0 above.1), rw (eq-eqb p p refl) at (more p), wide, g.kept p (omega (arith, above.1), le) (λ early. absurd (omega (arith, early, above.1)))))
-              (λ k some not_v not_p le free. omega (arith, columns k, ap columns_in (merged_supers-other xs v p is_v above.0 above.1 k some not_v not_p), rw (ne_eqb p k (λ e. not_p (sym e))) at (more k), g.kept k (some, le) (λ early. free (omega (arith, early)))))
+              (λ le free. omega (
+                arith,
+                columns p,
+                ap columns_in (merged_supers-parent xs v p is_v above.0 above.1),
+                rw (eq-eqb p p refl) at (more p),
+                wide,
+                g.kept p (omega (arith, above.1), le) (λ early. absurd (omega (arith, early, above.1))),
+              ))
+              (λ k some not_v not_p le free. omega (
+                arith,
+                columns k,
+                ap columns_in (merged_supers-other xs v p is_v above.0 above.1 k some not_v not_p),
+                rw (ne_eqb p k (λ e. not_p (sym e))) at (more k),
+                g.kept k (some, le) (λ early. free (omega (arith, early))),
+              ))
               t h.0 h.1;
           gone = λ t h. merged_each xs v p is_v above.0 above.1 Gone
               (λ le early go_t. omega (arith, columns v, ap columns_in (merged_supers-child xs v p is_v above.0 above.1)))
               (λ le early go_t. absurd (omega (arith, early, above.1)))
-              (λ k some not_v not_p le early go_k. omega (arith, columns k, ap columns_in (merged_supers-other xs v p is_v above.0 above.1 k some not_v not_p), g.gone k (some, le) (omega (arith, early, not_v)) go_k))
+              (λ k some not_v not_p le early go_k. omega (
+                arith,
+                columns k,
+                ap columns_in (merged_supers-other xs v p is_v above.0 above.1 k some not_v not_p),
+                g.gone k (some, le) (omega (arith, early, not_v)) go_k,
+              ))
               t h.0 h.1;
         }
 
@@ -98,7 +122,10 @@ module _ (zeros : ℕ) (a : AssemblyTree) (is : IsAssembly a) where
       let before = grown_at i (omega (arith, le)) in
       let lt : i < length old = omega (arith, le) in
       let up : i + 1 ≡ suc i = omega arith in
-      subst Grown up (elim (cases_Bool (stays zeros (gathered zeros old i) (i + 1))) [ inl stay ↦ grown_stays i lt before stay | inr go ↦ grown_goes i lt before go ])
+      subst Grown up (elim (cases_Bool (stays zeros (gathered zeros old i) (i + 1))) [
+        | inl stay ↦ grown_stays i lt before stay
+        | inr go ↦ grown_goes i lt before go
+      ])
 
   -- ---- as a supernode is visited
 
@@ -108,16 +135,20 @@ module _ (zeros : ℕ) (a : AssemblyTree) (is : IsAssembly a) where
 
     later_is : (t : ℕ) → s ≤ t → t ≤ length old → at (s - 1) t ≡ grown (s - 1) t
     later_is t later within =
-        same_super (at (s - 1) t) (grown (s - 1) t) ((grown_at (s - 1) (omega (arith, h.1))).kept t (omega (arith, h.0, later), within) (λ early. absurd (omega (arith, early, later, h.0))))
+        same_super (at (s - 1) t) (grown (s - 1) t)
+        ((grown_at (s - 1) (omega (arith, h.1))).kept t (omega (arith, h.0, later), within)
+        (λ early. absurd (omega (arith, early, later, h.0))))
         (before.rest t (omega (arith, h.0, later))) (before.parent t (omega (arith, h.0, later)))
 
     up : (at (s - 1) s).parent ≡ (super_at old s).parent
     up = before.parent s h.0
 
-    costs : (super_at old s).parent ≢ 0 → zeros_of (at (s - 1) s) (at (s - 1) (at (s - 1) s).parent) ≡ zeros_of (grown (s - 1) s) (grown (s - 1) (super_at old s).parent)
+    costs : (super_at old s).parent ≢ 0
+        → zeros_of (at (s - 1) s) (at (s - 1) (at (s - 1) s).parent) ≡ zeros_of (grown (s - 1) s) (grown (s - 1) (super_at old s).parent)
     costs child =
         let above = (is.each s h).parent (omega (arith, child)) in
-        ap (λ (k : ℕ). zeros_of (at (s - 1) s) (at (s - 1) k)) up ∙ ap (λ (x : Super). zeros_of x (at (s - 1) (super_at old s).parent)) (later_is s (omega arith) h.1)
+        ap (λ (k : ℕ). zeros_of (at (s - 1) s) (at (s - 1) k)) up
+        ∙ ap (λ (x : Super). zeros_of x (at (s - 1) (super_at old s).parent)) (later_is s (omega arith) h.1)
         ∙ ap (zeros_of (grown (s - 1) s)) (later_is (super_at old s).parent (omega (arith, above.0)) above.1)
 
     rule : IsTrue (goes s) ↔ ((0 < (super_at old s).parent) × (zeros_of (grown (s - 1) s) (grown (s - 1) (super_at old s).parent) ≤ zeros))
@@ -134,7 +165,8 @@ module _ (zeros : ℕ) (a : AssemblyTree) (is : IsAssembly a) where
                 ],
               )
               ),
-          λ both. ap not (stays-cheap zeros xs s (λ e. absurd (omega (arith, both.0, up, e))) (omega (arith, both.1, costs (omega (arith, both.0))))),
+          λ both. ap not
+              (stays-cheap zeros xs s (λ e. absurd (omega (arith, both.0, up, e))) (omega (arith, both.1, costs (omega (arith, both.0))))),
         )
 
   -- ---- in the end
@@ -172,18 +204,26 @@ module _ (zeros : ℕ) (a : AssemblyTree) (is : IsAssembly a) where
 
   number_is : (t : ℕ) → t ≤ n → new_number (gathered zeros old n) t ≡ number_among goes t
   number_is t le =
-      ap (λ (xs : List Super). count_by is_left (take t xs)) (sym listed) ∙ ap (count_by is_left) (take-map-range_with_len (at n) 1 n t le) ∙ sum_by-map (λ x. cond (is_left x) 1 0) (at n) (range_with_len 1 t)
+      ap (λ (xs : List Super). count_by is_left (take t xs)) (sym listed) ∙ ap (count_by is_left) (take-map-range_with_len (at n) 1 n t le)
+      ∙ sum_by-map (λ x. cond (is_left x) 1 0) (at n) (range_with_len 1 t)
       ∙ count_agree (λ s. is_left (at n s)) (λ s. not (goes s)) t (λ s low high. left_test s low (omega (arith, high, le)))
 
   number_home : (s : ℕ) → s ≤ n → new_number (gathered zeros old n) (st.name s) ≡ number_among goes (st.name s)
   number_home s le =
       elim (cases_eq s 0) [
         | inl nil ↦ (let none : st.name s ≡ 0 = ap st.name nil ∙ st.names.none in number_is (st.name s) (omega (arith, none)))
-        | inr some ↦ number_is (st.name s) (omega (arith, (stands_in (gathered zeros old n) st.name st.names s (omega (arith, some), omega (arith, le, end.len))).0.1, end.len))
+        | inr some ↦ number_is (st.name s) (omega (
+          arith,
+          (stands_in (gathered zeros old n) st.name st.names s (omega (arith, some), omega (arith, le, end.len))).0.1,
+          end.len,
+        ))
       ]
 
   inside : (s : ℕ) → IsSuper old s → (super_at old s).parent ≤ n
-  inside s h = elim (cases_eq (super_at old s).parent 0) [ inl root ↦ omega (arith, root) | inr child ↦ ((is.each s h).parent (omega (arith, child))).1 ]
+  inside s h = elim (cases_eq (super_at old s).parent 0) [
+    | inl root ↦ omega (arith, root)
+    | inr child ↦ ((is.each s h).parent (omega (arith, child))).1
+  ]
 
   pub relaxed : IsRelaxed zeros a (amalgamated zeros a)
   relaxed =
@@ -198,10 +238,16 @@ module _ (zeros : ℕ) (a : AssemblyTree) (is : IsAssembly a) where
         home = st.name;
         none = st.names.none;
         homes = homes;
-        supers = ap (λ (b : AssemblyTree). b.supers) made ∙ ap (λ (xs : List Super). map (reparented f) (filter is_left xs)) (sym listed) ∙ ap (map (reparented f)) (filter-map is_left (at n) (range_with_len 1 n))
+        supers = ap (λ (b : AssemblyTree). b.supers) made ∙ ap (λ (xs : List Super). map (reparented f) (filter is_left xs)) (sym listed)
+            ∙ ap (map (reparented f)) (filter-map is_left (at n) (range_with_len 1 n))
             ∙ map-map (reparented f) (at n) (filter (λ s. is_left (at n s)) (range_with_len 1 n))
             ∙ pick_agree (λ s. is_left (at n s)) (λ s. not (goes s)) (λ s. reparented f (at n s)) kept n left_test (λ s low high stay.
-            same_super (reparented f (at n s)) (kept s) (left s (low, high) (elim (cases_Bool (goes s)) [ inl go ↦ absurd (false≢true (sym (ap not go) ∙ stay)) | inr stays ↦ stays ])) (end.rest s low)
+            same_super (reparented f (at n s)) (kept s) (left s (low, high) (elim (cases_Bool (goes s)) [
+              | inl go ↦ absurd (false≢true (sym (ap not go) ∙ stay))
+              | inr stays ↦ stays
+            ])) (end.rest s low)
             (ap f (end.parent s low) ∙ number_home (super_at old s).parent (inside s (low, high))));
-        nodes = ap (λ (b : AssemblyTree). b.nodes) made ∙ map_agree f (λ s. number_among goes (st.name s)) 0 a.nodes (λ i lt. number_home (get_or a.nodes i 0) (is_node zeros a is (gathered zeros old n) end i lt).1);
+        nodes = ap (λ (b : AssemblyTree). b.nodes) made
+            ∙ map_agree f (λ s. number_among goes (st.name s)) 0 a.nodes
+            (λ i lt. number_home (get_or a.nodes i 0) (is_node zeros a is (gathered zeros old n) end i lt).1);
       }

@@ -1,5 +1,6 @@
 -- How many bits words have in common.
-use Rattle.std.proofs.Common.{◌≡◌, ℕ, zero, suc, ◌+◌, ◌*◌, ◌/◌, ◌%◌, ◌^◌, ◌<◌, ◌≤◌, inl, inr, Bool, false, cond, ◌&&◌, eqb, List, length, get_or, refl, sym, ap, ◌∙◌, arith, bit_and, count_ones}
+use Rattle.std.proofs.Common.{◌≡◌, ℕ, zero, suc, ◌+◌, ◌*◌, ◌/◌, ◌%◌, ◌^◌, ◌<◌, ◌≤◌, inl, inr, Bool, false, cond}
+use Rattle.std.proofs.Common.{◌&&◌, eqb, List, length, get_or, refl, sym, ap, ◌∙◌, arith, bit_and, count_ones}
 use Rattle.std.specs.Int.{bit_at}
 use Rattle.std.specs.List.{count_by, range_with_len}
 use Rattle.std.specs.Int.Count.{ones_step}

@@ -1,9 +1,11 @@
 -- Rows of bits as their words have them.
-use Rattle.std.proofs.Common.{◌≡◌, ◌≢◌, ◌∙◌, ℕ, ◌/◌, ◌<◌, inl, inr, Bool, true, false, not, ◌&&◌, ◌||◌, eqb, List, length, get_or, set, replicate, sym, ap, ap₂, arith}
+use Rattle.std.proofs.Common.{◌≡◌, ◌≢◌, ◌∙◌, ℕ, ◌/◌, ◌<◌, inl, inr, Bool, true, false, not, ◌&&◌, ◌||◌}
+use Rattle.std.proofs.Common.{eqb, List, length, get_or, set, replicate, sym, ap, ap₂, arith}
 use Rattle.std.specs.Prelude.{Some, None, position}
 use Rattle.std.specs.List.{count_by, position_or_len, range_with_len}
 use Rattle.std.proofs.lemmas.Bool.{cases_eq, cases_lt, cond_below, eqb-true, not-true, not-false, eq-eqb, or_from, true≢false}
-use Rattle.std.proofs.lemmas.List.{get_or_past, get_or_default, get_or-set_same, get_or-set_other, get_or-replicate, length-replicate, same_lists, length-set}
+use Rattle.std.proofs.lemmas.List.{get_or_past, get_or_default, get_or-set_same, get_or-set_other}
+use Rattle.std.proofs.lemmas.List.{get_or-replicate, length-replicate, same_lists, length-set}
 use Rattle.std.proofs.lemmas.List.Sums.{fails_before_first}
 use Rattle.std.proofs.lemmas.List.Quantifiers.{position-Some}
 use Rattle.std.proofs.lemmas.List.FromFn.{get_or-map-range_with_len, length-map-range_with_len}
@@ -29,7 +31,8 @@ bit_within row x here = elim (cases_lt x (length row)) [
 ]
 
 -- two rows of one length with the same bits
-pub same_rows : (row other : List Bool) → length row ≡ length other → ((x : ℕ) → x < length row → bit_in row x ≡ bit_in other x) → row ≡ other
+pub same_rows : (row other : List Bool) → length row ≡ length other
+    → ((x : ℕ) → x < length row → bit_in row x ≡ bit_in other x) → row ≡ other
 same_rows row other len same = same_lists row other len (λ k d lt.
     get_or_default row k d false lt ∙ same k lt ∙ get_or_default other k false d (omega arith))
 
@@ -41,20 +44,25 @@ none_in n x = elim (cases_lt x n) [
 ]
 
 -- one bit is written
-pub row_put : (len : ℕ) (words new : List ℕ) (x : ℕ) (b : Bool) → x < len → word_bit new x ≡ b → ((y : ℕ) → y ≢ x → word_bit new y ≡ word_bit words y)
+pub row_put : (len : ℕ) (words new : List ℕ) (x : ℕ) (b : Bool) → x < len
+    → word_bit new x ≡ b → ((y : ℕ) → y ≢ x → word_bit new y ≡ word_bit words y)
     → bits_of len new ≡ set (bits_of len words) x b
 row_put len words new x b lt here others =
     let long = row_length len words in
     let long' = row_length len new in
     same_rows (bits_of len new) (set (bits_of len words) x b) (long' ∙ sym (length-set (bits_of len words) x b ∙ long)) (λ k w.
     let within : k < len = omega arith in
-    let mine : bit_in (bits_of len new) k ≡ word_bit new k = get_or-map-range_with_len (word_bit new) 0 len k k false within (omega arith) in
+    let mine : bit_in (bits_of len new) k ≡ word_bit new k =
+    get_or-map-range_with_len (word_bit new) 0 len k k false within (omega arith) in
     elim (cases_eq k x) [
-      | inl e ↦ mine ∙ ap (word_bit new) e ∙ here ∙ sym (ap (λ j. get_or (set (bits_of len words) x b) j false) e ∙ get_or-set_same (bits_of len words) x b false (omega arith))
-      | inr n ↦ mine ∙ others k n ∙ sym (get_or-set_other (bits_of len words) x k b false n ∙ get_or-map-range_with_len (word_bit words) 0 len k k false within (omega arith))
+      | inl e ↦ mine ∙ ap (word_bit new) e ∙ here
+          ∙ sym (ap (λ j. get_or (set (bits_of len words) x b) j false) e ∙ get_or-set_same (bits_of len words) x b false (omega arith))
+      | inr n ↦ mine ∙ others k n ∙ sym (get_or-set_other (bits_of len words) x k b false n
+          ∙ get_or-map-range_with_len (word_bit words) 0 len k k false within (omega arith))
     ])
 
-pub put_kept : (len : ℕ) (words new : List ℕ) (x : ℕ) → x < len → IsBitRow len words → length new ≡ length words → ((y : ℕ) → y ≢ x → word_bit new y ≡ word_bit words y) → IsBitRow len new
+pub put_kept : (len : ℕ) (words new : List ℕ) (x : ℕ) → x < len → IsBitRow len words
+    → length new ≡ length words → ((y : ℕ) → y ≢ x → word_bit new y ≡ word_bit words y) → IsBitRow len new
 put_kept len words new x lt is long others = record {
   small = is.small;
   long = long ∙ is.long;
@@ -67,7 +75,8 @@ row_none len n =
     let long = row_length len (replicate n 0) in
     same_rows (bits_of len (replicate n 0)) (replicate len false) (long ∙ sym (length-replicate len false)) (λ k w.
     let within : k < len = omega arith in
-    get_or-map-range_with_len (word_bit (replicate n 0)) 0 len k k false within (omega arith) ∙ bit_zeros n k ∙ sym (get_or-replicate len k false false within))
+    get_or-map-range_with_len (word_bit (replicate n 0)) 0 len k k false within (omega arith)
+    ∙ bit_zeros n k ∙ sym (get_or-replicate len k false false within))
 
 -- ---- two rows
 
@@ -106,7 +115,8 @@ first_word_none words e k = elim (cases_lt k (length words)) [
         let first = position_or_len is_some_word words in
         let is : Some first ≡ None = cond_below first (length words) (Some first) None l ∙ e in
         cc)
-    | inr ge ↦ eqb-true (get_or words k 0) 0 (not-false (eqb (get_or words k 0) 0) (fails_before_first is_some_word words k 0 (omega arith)))
+    | inr ge ↦
+        eqb-true (get_or words k 0) 0 (not-false (eqb (get_or words k 0) 0) (fails_before_first is_some_word words k 0 (omega arith)))
   ]
 ]
 
@@ -119,7 +129,8 @@ module _ (len : ℕ) (words : List ℕ) (is : IsBitRow len words) where
         within = bit_within (bits_of len words) x here;
         here = here;
         first = λ y lt. row_bit len words is y ∙ elim (cases_lt (y / 64) k) [
-          | inl less ↦ bit_of_none words y (eqb-true (get_or words (y / 64) 0) 0 (not-false (eqb (get_or words (y / 64) 0) 0) (h.2 (y / 64) less)))
+          | inl less ↦
+              bit_of_none words y (eqb-true (get_or words (y / 64) 0) 0 (not-false (eqb (get_or words (y / 64) 0) 0) (h.2 (y / 64) less)))
           | inr ge ↦ low.first y lt (let w = low.word in omega arith)
         ];
       }

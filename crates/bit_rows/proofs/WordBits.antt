@@ -1,9 +1,11 @@
 -- Bits in words: what a write leaves, and which is the lowest.
-use Rattle.std.proofs.Common.{◌≡◌, ◌≢◌, ℕ, zero, suc, ◌+◌, ◌*◌, ◌/◌, ◌%◌, ◌^◌, ◌<◌, ◌≤◌, inl, inr, Bool, true, false, ◌&&◌, ◌||◌, eqb, min, max, List, length, get_or, set, replicate, refl, sym, ap, ◌∙◌, arith, bit_and, bit_or, w64}
+use Rattle.std.proofs.Common.{◌≡◌, ◌≢◌, ℕ, zero, suc, ◌+◌, ◌*◌, ◌/◌, ◌%◌, ◌^◌, ◌<◌, ◌≤◌, inl, inr, Bool, true, false, ◌&&◌, ◌||◌, eqb}
+use Rattle.std.proofs.Common.{min, max, List, length, get_or, set, replicate, refl, sym, ap, ◌∙◌, arith, bit_and, bit_or, w64}
 use Rattle.std.specs.Int.{bit_at, bit_not, trailing_zeros}
 use Rattle.std.proofs.lemmas.Bool.{cases_eq, cases_lt, or_from, both_ways}
 use Rattle.std.proofs.lemmas.List.{get_or_past, get_or-set_same, get_or-set_other, get_or-replicate, length-replicate}
-use Rattle.std.proofs.lemmas.Nat.Bits.{bit_at-zero, bit_at-lt, bit_at_and, bit_at_or, bit_at_set_same, bit_at_set_other, bit_at_clear_same, bit_at_clear_other, bit_at-trailing_zeros}
+use Rattle.std.proofs.lemmas.Nat.Bits.{bit_at-zero, bit_at-lt, bit_at_and, bit_at_or, bit_at_set_same, bit_at_set_other}
+use Rattle.std.proofs.lemmas.Nat.Bits.{bit_at_clear_same, bit_at_clear_other, bit_at-trailing_zeros}
 use Rattle.bit_rows.specs.Bits.{word_bit}
 use Rattle.bit_rows.specs.Rows.{IsLowestIn}
 
@@ -65,7 +67,8 @@ module _ (row : List ℕ) (x w : ℕ) (lt : x / 64 < length row) where
   same_place : (b : Bool) → word_has w (x % 64) ≡ b → word_bit (set row (x / 64) w) x ≡ b
   same_place b h = bit_is (set row (x / 64) w) x ∙ ap (λ v. word_has v (x % 64)) (get_or-set_same row (x / 64) w 0 lt) ∙ h
 
-  other_place : ((i : ℕ) → i < 64 → i ≢ x % 64 → bit_at w i ≡ bit_at (get_or row (x / 64) 0) i) → (y : ℕ) → y ≢ x → word_bit (set row (x / 64) w) y ≡ word_bit row y
+  other_place : ((i : ℕ) → i < 64 → i ≢ x % 64 → bit_at w i ≡ bit_at (get_or row (x / 64) 0) i)
+      → (y : ℕ) → y ≢ x → word_bit (set row (x / 64) w) y ≡ word_bit row y
   other_place same y ne = bit_is (set row (x / 64) w) y ∙ elim (cases_eq (y / 64) (x / 64)) [
     | inl e ↦ (
         ap (λ z. word_has (get_or (set row (x / 64) w) z 0) (y % 64)) e
@@ -81,7 +84,8 @@ module _ (row : List ℕ) (x : ℕ) (lt : x / 64 < length row) where
   put_in = same_place row x (bit_or (get_or row (x / 64) 0) (1 * 2 ^ (x % 64) % 2 ^ 64)) lt true
       (ap (λ z. eqb z 1) (bit_at_set_same w64 (get_or row (x / 64) 0) (x % 64) (omega arith)))
 
-  pub put_in_others : (y : ℕ) → y ≢ x → word_bit (set row (x / 64) (bit_or (get_or row (x / 64) 0) (1 * 2 ^ (x % 64) % 2 ^ 64))) y ≡ word_bit row y
+  pub put_in_others : (y : ℕ) → y ≢ x
+      → word_bit (set row (x / 64) (bit_or (get_or row (x / 64) 0) (1 * 2 ^ (x % 64) % 2 ^ 64))) y ≡ word_bit row y
   put_in_others = other_place row x (bit_or (get_or row (x / 64) 0) (1 * 2 ^ (x % 64) % 2 ^ 64)) lt
       (λ i i_lt ne. bit_at_set_other w64 (get_or row (x / 64) 0) (x % 64) (omega arith) i ne)
 
@@ -89,7 +93,8 @@ module _ (row : List ℕ) (x : ℕ) (lt : x / 64 < length row) where
   taken_out = same_place row x (bit_and (get_or row (x / 64) 0) (bit_not w64 (1 * 2 ^ (x % 64) % 2 ^ 64))) lt false
       (ap (λ z. eqb z 1) (bit_at_clear_same w64 (get_or row (x / 64) 0) (x % 64) (omega arith)))
 
-  pub taken_out_others : (y : ℕ) → y ≢ x → word_bit (set row (x / 64) (bit_and (get_or row (x / 64) 0) (bit_not w64 (1 * 2 ^ (x % 64) % 2 ^ 64)))) y ≡ word_bit row y
+  pub taken_out_others : (y : ℕ) → y ≢ x
+      → word_bit (set row (x / 64) (bit_and (get_or row (x / 64) 0) (bit_not w64 (1 * 2 ^ (x % 64) % 2 ^ 64)))) y ≡ word_bit row y
   taken_out_others = other_place row x (bit_and (get_or row (x / 64) 0) (bit_not w64 (1 * 2 ^ (x % 64) % 2 ^ 64))) lt
       (λ i i_lt ne. bit_at_clear_other w64 (get_or row (x / 64) 0) (x % 64) (omega arith) i i_lt ne)
 
@@ -101,7 +106,8 @@ pub united : (row other row' : List ℕ) → length row' ≡ length row → leng
 united row other row' len len' done x = elim (cases_lt (x / 64) (length row)) [
   | inl lt ↦ (
       bit_is row' x ∙ ap (λ w. word_has w (x % 64)) (done (x / 64) lt) ∙ word_or (get_or row (x / 64) 0) (get_or other (x / 64) 0) (x % 64)
-      ∙ ap (λ z. z || word_has (get_or other (x / 64) 0) (x % 64)) (sym (bit_is row x)) ∙ ap (λ z. word_bit row x || z) (sym (bit_is other x))
+      ∙ ap (λ z. z || word_has (get_or other (x / 64) 0) (x % 64)) (sym (bit_is row x))
+      ∙ ap (λ z. word_bit row x || z) (sym (bit_is other x))
       )
   | inr le ↦ bit_past row' x (omega arith) ∙ sym
       (or_from (word_bit row x) (word_bit other x) (bit_past row x le) (bit_past other x (omega arith)))
@@ -109,7 +115,8 @@ united row other row' len len' done x = elim (cases_lt (x / 64) (length row)) [
 
 -- ---- the lowest bit
 
-pub lowest_in : (words : List ℕ) (k : ℕ) → get_or words k 0 ≢ 0 → get_or words k 0 < 2 ^ 64 → IsLowestIn words k (64 * k + trailing_zeros w64 (get_or words k 0))
+pub lowest_in : (words : List ℕ) (k : ℕ) → get_or words k 0 ≢ 0 → get_or words k 0 < 2 ^ 64
+    → IsLowestIn words k (64 * k + trailing_zeros w64 (get_or words k 0))
 lowest_in words k some fits =
     let w = get_or words k 0 in
     let l = bit_at-trailing_zeros w64 w (omega arith) fits in
@@ -118,6 +125,7 @@ lowest_in words k some fits =
     let place : (64 * k + i) % 64 ≡ i = let lt = l.0 in omega arith in
     record {
       word = at;
-      here = bit_is words (64 * k + i) ∙ ap (λ z. word_has (get_or words z 0) ((64 * k + i) % 64)) at ∙ ap (word_has w) place ∙ ap (λ z. eqb z 1) l.1;
+      here = bit_is words (64 * k + i)
+          ∙ ap (λ z. word_has (get_or words z 0) ((64 * k + i) % 64)) at ∙ ap (word_has w) place ∙ ap (λ z. eqb z 1) l.1;
       first = λ y lt e. bit_is words y ∙ ap (λ z. word_has (get_or words z 0) (y % 64)) e ∙ ap (λ z. eqb z 1) (l.2 (y % 64) (omega arith));
     }

@@ -1,5 +1,6 @@
 -- An analysis, merged and laid out, has the fronts of the definition.
-use Rattle.std.proofs.Common.{◌≡◌, ◌∙◌, ℕ, suc, Bool, ◌+◌, ◌-◌, ◌≤◌, All, Option, Some, None, List, [], ◌∷◌, length, get_or, sym, ap, subst, arith}
+use Rattle.std.proofs.Common.{◌≡◌, ◌∙◌, ℕ, suc, Bool, ◌+◌, ◌-◌, ◌≤◌, All, Option, Some, None}
+use Rattle.std.proofs.Common.{List, [], ◌∷◌, length, get_or, sym, ap, subst, arith}
 use Rattle.std.specs.List.{sum_by}
 use Rattle.std.proofs.lemmas.List.{length-map}
 use Rattle.std.proofs.lemmas.List.Elements.{All-from_get_or}
@@ -58,7 +59,8 @@ few_fronts shape inplace a nodes is are =
     let long = ap length are ∙ length-map-range_with_len (front_at shape inplace a.supers) 1 (length a.supers) in
     omega (arith, long, one_each a.supers (each_some a is), is.total)
 
-pub made : (options : FrontOptions) (rows : List (List ℕ)) (order perm : List ℕ) (assembly merged : AssemblyTree) (nodes : List Node) (fronts : List ℕ)
+pub made : (options : FrontOptions) (rows : List (List ℕ)) (order perm : List ℕ)
+    (assembly merged : AssemblyTree) (nodes : List Node) (fronts : List ℕ)
     → IsAnalysis rows order perm assembly → length perm ≡ length order → merged ≡ relaxed options.zeros assembly
     → nodes ≡ nodes_of_fronts options.shape options.inplace merged.supers → fronts ≡ fronts_of_columns merged perm
     → HaveFronts options rows order nodes fronts

@@ -1,5 +1,6 @@
 -- Claims at rising positions, one more at a time.
-use Rattle.std.proofs.Common.{◌≡◌, ◌∙◌, ℕ, pos, ◌+◌, ◌<◌, All, List, [], ◌∷◌, ◌++◌, map, take, length, slice_index_or, ap, subst, sym, arith}
+use Rattle.std.proofs.Common.{◌≡◌, ◌∙◌, ℕ, pos, ◌+◌, ◌<◌, All, List, [], ◌∷◌, ◌++◌, map}
+use Rattle.std.proofs.Common.{take, length, slice_index_or, ap, subst, sym, arith}
 use Rattle.std.specs.Prelude.{◌↔◌}
 use Rattle.std.proofs.Math.Seq.{get_or-append_seam}
 use Rattle.std.proofs.lemmas.List.{take_more, map-append, length-append}
@@ -43,7 +44,8 @@ module _ (claims : List Claim) (i : ℕ) (d : Claim) (there : i < length claims)
   abbrev before : List PlanClaim
   before = map claim_given (take i claims)
 
-  pub are_more : (last : ℕ) → AreRisingClaims (take i claims) → GoesOn before last → last < next.position → IsClaimWithin next → AreRisingClaims (take (i + 1) claims)
+  pub are_more : (last : ℕ) → AreRisingClaims (take i claims) → GoesOn before last
+      → last < next.position → IsClaimWithin next → AreRisingClaims (take (i + 1) claims)
   are_more last are on past within = (
     subst (All IsClaimWithin) (sym (one_more claims i d there)) (All-push IsClaimWithin before next are.0 within),
     subst (RiseFrom 0) (sym (one_more claims i d there)) ((on next).1 past),

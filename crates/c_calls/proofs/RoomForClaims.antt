@@ -1,5 +1,6 @@
 -- A certificate has at most as many claims as the term of its nodes has positions, and they are at most three for a node and one.
-use Rattle.std.proofs.Common.{◌≡◌, ◌∙◌, ℕ, zero, suc, ◌+◌, ◌*◌, ◌<◌, ◌≤◌, if◌then◌else◌, eq-eqb, ne_eqb, Some, List, [], ◌∷◌, ◌++◌, length, refl, sym, ap, arith, IsPermutation, length-append}
+use Rattle.std.proofs.Common.{◌≡◌, ◌∙◌, ℕ, zero, suc, ◌+◌, ◌*◌, ◌<◌, ◌≤◌, if◌then◌else◌, eq-eqb, ne_eqb, Some}
+use Rattle.std.proofs.Common.{List, [], ◌∷◌, ◌++◌, length, refl, sym, ap, arith, IsPermutation, length-append}
 use Rattle.std.specs.List.{range_with_len}
 use Rattle.std.proofs.lemmas.List.FromFn.{length-range_with_len}
 use Rattle.std.proofs.lemmas.List.Sorted.{length_permutation}
@@ -44,7 +45,9 @@ last_stands n c (d ∷ ds) rise =
     record {
       at = last.at;
       claim = last.claim;
-      stands = ap (λ b. if b then Some (claim_of c) else claim_at (d ∷ ds) last.at) (ne_eqb c.position last.at (λ e. omega (arith, e, last.is_far))) ∙ last.stands;
+      stands = ap (λ b. if b then Some (claim_of c) else claim_at (d ∷ ds) last.at)
+          (ne_eqb c.position last.at (λ e. omega (arith, e, last.is_far)))
+          ∙ last.stands;
       is_far = omega (arith, rise.0, last.is_far);
     }
 
@@ -106,7 +109,8 @@ not_of_nodes refused_nodes.NoMemory kind = omega (arith, kind)
 
 -- what the law of forests says
 abbrev pub EachOnce : Type 0
-EachOnce = (nodes : List Node) (f : Forest) → IsTree nodes → IsForestOf nodes f → IsPermutation (all_numbers f) (range_with_len 1 (length nodes))
+EachOnce =
+    (nodes : List Node) (f : Forest) → IsTree nodes → IsForestOf nodes f → IsPermutation (all_numbers f) (range_with_len 1 (length nodes))
 
 module _ (each : EachOnce) where
   pub most : (nodes : List Node) (plan : PlanValue) → IsTree nodes → IsPlan plan → IsCertificate nodes plan
@@ -124,7 +128,8 @@ module _ (each : EachOnce) where
 
   -- a refusal of the kind of claims: there is less room than is always enough, which is told
   by_kind : (nodes : List Node) (places room : ℕ) (refusal : Refusal) → IsCertifyRefusal nodes places room refusal
-      → (answer_to refusal).fault.kind ≡ 3 → (room < most_claims (length nodes)) × ((answer_to refusal).fault.value ≡ most_claims (length nodes))
+      → (answer_to refusal).fault.kind ≡ 3
+      → (room < most_claims (length nodes)) × ((answer_to refusal).fault.value ≡ most_claims (length nodes))
   by_kind nodes places room (refusals.ClaimRoom needed) because kind =
       (omega (arith, because.past, most nodes because.plan because.tree because.within because.certificate), because.needed_is)
   by_kind nodes places room (refusals.Room needed) because kind = absurd (omega (arith, kind))
@@ -140,9 +145,12 @@ module _ (each : EachOnce) where
 
   pub enough : (nodes : List Node) (places room status : ℕ) (fault : Fault) → most_claims (length nodes) ≤ room
       → IsRefusedFor (IsCertifyRefusal nodes places room) status fault → fault.kind ≡ 3 → ⊥
-  enough nodes places room status fault is_enough refused kind = omega (arith, is_enough, (told nodes places room status fault refused kind).0)
+  enough nodes places room status fault is_enough refused kind =
+      omega (arith, is_enough, (told nodes places room status fault refused kind).0)
 
-  pub again : (nodes : List Node) (places room status second : ℕ) (fault other : Fault) → IsRefusedFor (IsCertifyRefusal nodes places room) status fault
+  pub again : (nodes : List Node) (places room status second : ℕ) (fault other : Fault)
+      → IsRefusedFor (IsCertifyRefusal nodes places room) status fault
       → fault.kind ≡ 3 → IsRefusedFor (IsCertifyRefusal nodes places fault.value) second other → other.kind ≡ 3 → ⊥
   again nodes places room status second fault other refused kind refused_again other_kind =
-      enough nodes places fault.value second other (omega (arith, (told nodes places room status fault refused kind).1)) refused_again other_kind
+      enough nodes places fault.value second other
+      (omega (arith, (told nodes places room status fault refused kind).1)) refused_again other_kind

@@ -1,5 +1,6 @@
 -- A plan is accepted, or there is one first objection to it.
-use Rattle.std.proofs.Common.{◌≡◌, ◌==◌, false, refl, sym, ap, ◌∙◌, subst, ℕ, ◌+◌, ◌<◌, max, pos, ◌≤ℤ◌, ◌+ℤ◌, List, [], ◌∷◌, length, Option, Some, None, arith, ⊎_elim, ◌⊎◌, inl, inr}
+use Rattle.std.proofs.Common.{◌≡◌, ◌==◌, false, refl, sym, ap, ◌∙◌, subst, ℕ, ◌+◌, ◌<◌, max, pos, ◌≤ℤ◌, ◌+ℤ◌}
+use Rattle.std.proofs.Common.{List, [], ◌∷◌, length, Option, Some, None, arith, ⊎_elim, ◌⊎◌, inl, inr}
 use Rattle.std.specs.Prelude.{◌↔◌}
 use Rattle.std.proofs.lemmas.Bool.{cases_lt, cases_eq, cases_order}
 use Rattle.std.proofs.lemmas.Int.{by_lt_z, ints}
@@ -40,12 +41,16 @@ none_above (c ∷ cs) k lt =
 
 -- all claims pass, or one is the lowest that does not
 all_or_lowest : (ps : List Position) (cs : List Claim)
-    → ((k : ℕ) → PassesAt ps (claim_at cs) k) ⊎ ((m : ℕ) × (PassesAt ps (claim_at cs) m → ⊥) × ((k : ℕ) → k < m → PassesAt ps (claim_at cs) k))
+    → ((k : ℕ) → PassesAt ps (claim_at cs) k)
+    ⊎ ((m : ℕ) × (PassesAt ps (claim_at cs) m → ⊥) × ((k : ℕ) → k < m → PassesAt ps (claim_at cs) k))
 all_or_lowest ps cs = go (search_below (PassesAt ps (claim_at cs)) (passes ps (claim_at cs)) (top cs + 1))
   where
-    go : ((k : ℕ) → k < top cs + 1 → PassesAt ps (claim_at cs) k) ⊎ ((m : ℕ) × (m < top cs + 1) × (PassesAt ps (claim_at cs) m → ⊥) × ((k : ℕ) → k < m → PassesAt ps (claim_at cs) k))
-        → ((k : ℕ) → PassesAt ps (claim_at cs) k) ⊎ ((m : ℕ) × (PassesAt ps (claim_at cs) m → ⊥) × ((k : ℕ) → k < m → PassesAt ps (claim_at cs) k))
-    go (inl all) = inl (λ k. ⊎_elim (λ low. all k low) (λ high. passes_without ps cs k (none_above cs k (omega arith))) (cases_lt k (top cs + 1)))
+    go : ((k : ℕ) → k < top cs + 1 → PassesAt ps (claim_at cs) k)
+        ⊎ ((m : ℕ) × (m < top cs + 1) × (PassesAt ps (claim_at cs) m → ⊥) × ((k : ℕ) → k < m → PassesAt ps (claim_at cs) k))
+        → ((k : ℕ) → PassesAt ps (claim_at cs) k)
+        ⊎ ((m : ℕ) × (PassesAt ps (claim_at cs) m → ⊥) × ((k : ℕ) → k < m → PassesAt ps (claim_at cs) k))
+    go (inl all) =
+        inl (λ k. ⊎_elim (λ low. all k low) (λ high. passes_without ps cs k (none_above cs k (omega arith))) (cases_lt k (top cs + 1)))
     go (inr h) = inr (h.0, h.2, h.3)
 
 has_root : (ps : List Position) (plan : PlanValue) → Decided (HasRoot ps plan)
@@ -60,7 +65,8 @@ has_root ps plan = at (claim_at plan.claims (length ps)) refl
     at : (o : Option RuleClaim) → claim_at plan.claims (length ps) ≡ o → Decided (HasRoot ps plan)
     at None e = inr (λ h. none (sym e ∙ h.1))
     at (Some c) e = by_lt_z (c.bound +ℤ pos 1) (pos plan.peak)
-        (λ lt. inr (λ h. let b : c ≡ h.0 = same (sym e ∙ h.1) in let le : pos plan.peak ≤ℤ (c.bound +ℤ pos 1) = subst (λ (x : RuleClaim). pos plan.peak ≤ℤ (x.bound +ℤ pos 1)) (sym b) h.2 in omega (arith, ints, lt, le)))
+        (λ lt. inr (λ h. let b : c ≡ h.0 = same (sym e ∙ h.1) in let le : pos plan.peak ≤ℤ (c.bound +ℤ pos 1) =
+        subst (λ (x : RuleClaim). pos plan.peak ≤ℤ (x.bound +ℤ pos 1)) (sym b) h.2 in omega (arith, ints, lt, le)))
         (λ le. inl (c, e, le))
 
 -- what the law of traversals says
@@ -75,16 +81,19 @@ pub accepted_or_objected : FaultLaw → (system : TaskSystem) (ps : List Positio
 accepted_or_objected law system ps plan = by_order (first_fault system plan.order) refl
   where
     by_claims : IsTraversal system plan.order → peak_of system plan.order ≡ plan.peak → HasRoot ps plan
-        → ((k : ℕ) → PassesAt ps (claim_at plan.claims) k) ⊎ ((m : ℕ) × (PassesAt ps (claim_at plan.claims) m → ⊥) × ((k : ℕ) → k < m → PassesAt ps (claim_at plan.claims) k))
+        → ((k : ℕ) → PassesAt ps (claim_at plan.claims) k)
+        ⊎ ((m : ℕ) × (PassesAt ps (claim_at plan.claims) m → ⊥) × ((k : ℕ) → k < m → PassesAt ps (claim_at plan.claims) k))
         → IsAccepted system ps plan ⊎ SomeObjection system ps plan
     by_claims traversal peak root (inl all) = inl (record { traversal = traversal; peak = peak; root = root; claims = all })
     by_claims traversal peak root (inr h) = inr (objections.Claim h.0 (shape_at ps h.0), (traversal, peak, root, h.2, h.1, refl))
 
-    by_root : IsTraversal system plan.order → peak_of system plan.order ≡ plan.peak → Decided (HasRoot ps plan) → IsAccepted system ps plan ⊎ SomeObjection system ps plan
+    by_root : IsTraversal system plan.order → peak_of system plan.order ≡ plan.peak
+        → Decided (HasRoot ps plan) → IsAccepted system ps plan ⊎ SomeObjection system ps plan
     by_root traversal peak (inl root) = by_claims traversal peak root (all_or_lowest ps plan.claims)
     by_root traversal peak (inr fails) = inr (objections.Root (length ps), (traversal, peak, refl, fails))
 
-    by_peak : IsTraversal system plan.order → (peak_of system plan.order ≡ plan.peak) ⊎ (peak_of system plan.order ≡ plan.peak → ⊥) → IsAccepted system ps plan ⊎ SomeObjection system ps plan
+    by_peak : IsTraversal system plan.order → (peak_of system plan.order ≡ plan.peak) ⊎ (peak_of system plan.order ≡ plan.peak → ⊥)
+        → IsAccepted system ps plan ⊎ SomeObjection system ps plan
     by_peak traversal (inl peak) = by_root traversal peak (has_root ps plan)
     by_peak traversal (inr fails) = inr (objections.Peak (peak_of system plan.order) plan.peak, (traversal, refl, refl, fails))
 
@@ -93,7 +102,8 @@ accepted_or_objected law system ps plan = by_order (first_fault system plan.orde
     by_order (Some (place, kind)) e = inr (objections.Order (record { place = place; kind = kind }), e)
 
 -- an order with a fault is no traversal
-no_traversal : FaultLaw → (system : TaskSystem) (order : List ℕ) (fault : ℕ × OrderKind) → first_fault system order ≡ Some fault → IsTraversal system order → ⊥
+no_traversal : FaultLaw → (system : TaskSystem) (order : List ℕ) (fault : ℕ × OrderKind)
+    → first_fault system order ≡ Some fault → IsTraversal system order → ⊥
 no_traversal law system order fault e traversal = some_none (sym e ∙ (law system order).1 traversal)
 
 pub not_both : FaultLaw → (system : TaskSystem) (ps : List Position) (plan : PlanValue) (objection : Objection)
@@ -103,7 +113,8 @@ not_both law system ps plan (objections.Peak replayed printed) a o = o.3 (sym o.
 not_both law system ps plan (objections.Root last) a o = o.3 a.root
 not_both law system ps plan (objections.Claim position shape) a o = o.4 (a.claims position)
 
-same_order : (f g : OrderFault) → ◌≡◌ {A = Option (ℕ × OrderKind)} (Some (f.place, f.kind)) (Some (g.place, g.kind)) → objections.Order f ≡ objections.Order g
+same_order : (f g : OrderFault) → ◌≡◌ {A = Option (ℕ × OrderKind)} (Some (f.place, f.kind)) (Some (g.place, g.kind))
+    → objections.Order f ≡ objections.Order g
 same_order f g e = let same : ◌≡◌ {A = OrderFault} f g = λ i. record { place = place e i; kind = kind e i } in ap objections.Order same
   where
     pair : {x y : ℕ × OrderKind} → Some x ≡ Some y → x ≡ y

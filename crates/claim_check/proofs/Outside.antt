@@ -1,5 +1,6 @@
 -- Claims past the last position.
-use Rattle.std.proofs.Common.{◌≡◌, ◌==◌, refl, sym, ap, ◌∙◌, subst, ℕ, ◌≤◌, ◌+◌, ◌<◌, true, false, ◌&&◌, nat_le, List, [], ◌∷◌, length, Option, Some, None, arith}
+use Rattle.std.proofs.Common.{◌≡◌, ◌==◌, refl, sym, ap, ◌∙◌, subst, ℕ, ◌≤◌, ◌+◌, ◌<◌, true, false}
+use Rattle.std.proofs.Common.{◌&&◌, nat_le, List, [], ◌∷◌, length, Option, Some, None, arith}
 use Rattle.std.specs.Prelude.{is_some, nat_lt, option_map}
 use Rattle.std.specs.List.{list_any, find}
 use Rattle.sp_terms.specs.declared.position.Position.{Position}
@@ -23,7 +24,8 @@ claimed ps cs k out some pass = go (claim_at cs k) refl (sym (some_claim cs k) �
     go None e s = cc
     go (Some c) e s = let p = pass c e in let w = within k (length ps) p.0 p.1 in cc (w, out)
 
-pub unclaimed : (ps : List Position) (cs : List Claim) (k : ℕ) → list_any (λ (c : Claim). c.position == k) cs ≡ false → PassesAt ps (claim_at cs) k
+pub unclaimed : (ps : List Position) (cs : List Claim) (k : ℕ)
+    → list_any (λ (c : Claim). c.position == k) cs ≡ false → PassesAt ps (claim_at cs) k
 unclaimed ps cs k none c e = absurd (apart (sym none ∙ some_claim cs k ∙ ap is_some e))
   where
     apart : false ≡ true → ⊥
@@ -37,7 +39,8 @@ passes_without ps cs k none c e = absurd (some_none (sym e ∙ none))
 -- what stands past `last`: nothing, or a claim first
 abbrev IsPast : List Claim → ℕ → Option Claim → Type 0
 IsPast cs last None = (k : ℕ) → last < k → claim_at cs k ≡ None
-IsPast cs last (Some c) = (last < c.position) × (claim_at cs c.position ≡ Some (claim_of c)) × ((k : ℕ) → last < k → k < c.position → claim_at cs k ≡ None)
+IsPast cs last (Some c) =
+    (last < c.position) × (claim_at cs c.position ≡ Some (claim_of c)) × ((k : ℕ) → last < k → k < c.position → claim_at cs k ≡ None)
 
 is_past : (n : ℕ) (cs : List Claim) (last : ℕ) → RiseFrom n cs → IsPast cs last (find (λ (c : Claim). nat_lt last c.position) cs)
 is_past n [] last rise = λ k lt. refl
@@ -63,12 +66,15 @@ is_past n (c ∷ cs) last rise =
     )
 
 first_outside : (ps : List Position) (cs : List Claim) (last : ℕ) → RiseFrom 0 cs → last ≡ length ps → (r : Option ℕ)
-    → r ≡ option_map (λ (c : Claim). c.position) (find (λ (c : Claim). nat_lt last c.position) cs) → IsLowestFrom ps (claim_at cs) (length ps + 1) r
+    → r ≡ option_map (λ (c : Claim). c.position) (find (λ (c : Claim). nat_lt last c.position) cs)
+    → IsLowestFrom ps (claim_at cs) (length ps + 1) r
 first_outside ps cs last rise is r e =
     subst (IsLowestFrom ps (claim_at cs) (length ps + 1)) (sym e)
-    (of_past ps cs (find (λ (c : Claim). nat_lt last c.position) cs) (subst (λ n. IsPast cs n (find (λ (c : Claim). nat_lt last c.position) cs)) is (is_past 0 cs last rise)))
+    (of_past ps cs (find (λ (c : Claim). nat_lt last c.position) cs)
+    (subst (λ n. IsPast cs n (find (λ (c : Claim). nat_lt last c.position) cs)) is (is_past 0 cs last rise)))
   where
-    of_past : (ps : List Position) (cs : List Claim) (o : Option Claim) → IsPast cs (length ps) o → IsLowestFrom ps (claim_at cs) (length ps + 1) (option_map (λ (c : Claim). c.position) o)
+    of_past : (ps : List Position) (cs : List Claim) (o : Option Claim) → IsPast cs (length ps) o
+        → IsLowestFrom ps (claim_at cs) (length ps + 1) (option_map (λ (c : Claim). c.position) o)
     of_past ps cs None past = λ k low. passes_without ps cs k (past k (omega arith))
     of_past ps cs (Some c) past = (
       omega (arith, past.0),
@@ -76,7 +82,8 @@ first_outside ps cs last rise is r e =
       λ k low high. passes_without ps cs k (past.2 k (omega arith) high),
     )
 
-pub first_outside_of : (view : Claimed) (cs : List Claim) (last : ℕ) → view.claims ≡ cs → RiseFrom 0 view.claims → last ≡ length view.positions → (r : Option ℕ)
+pub first_outside_of : (view : Claimed) (cs : List Claim) (last : ℕ) → view.claims ≡ cs
+    → RiseFrom 0 view.claims → last ≡ length view.positions → (r : Option ℕ)
     → r ≡ option_map (λ (c : Claim). c.position) (find (λ (c : Claim). nat_lt last c.position) cs)
     → IsLowestFrom view.positions (claim_at view.claims) (length view.positions + 1) r
 first_outside_of view cs last same rise is r e =

@@ -1,5 +1,6 @@
 -- The parts of a term, from the last one back.
-use Rattle.std.proofs.Common.{◌≡◌, refl, sym, ap, ◌∙◌, subst, ℕ, zero, suc, ◌+◌, ◌-◌, ◌<◌, ◌≤◌, All, List, [], ◌∷◌, length, drop, map, get_or, Option, arith}
+use Rattle.std.proofs.Common.{◌≡◌, refl, sym, ap, ◌∙◌, subst, ℕ, zero, suc, ◌+◌, ◌-◌, ◌<◌, ◌≤◌}
+use Rattle.std.proofs.Common.{All, List, [], ◌∷◌, length, drop, map, get_or, Option, arith}
 use Rattle.std.proofs.Math.Seq.{drop-cons}
 use Rattle.std.proofs.lemmas.List.{get_or-map, length-map}
 use Rattle.std.proofs.lemmas.List.Elements.{All-get_or}
@@ -57,7 +58,8 @@ pub record Step (term : ℕ → Term) (k before : ℕ) (ts : List Term) (left he
   pub high : here < k
   pub room : width_of (term here) ≤ here
   pub terms : drop (left - 1) ts ≡ term here ∷ drop left ts
-  pub claims : (f : ℕ → Option Claim) → drop (left - 1) (map f (positions_after before ts)) ≡ f here ∷ drop left (map f (positions_after before ts))
+  pub claims : (f : ℕ → Option Claim)
+      → drop (left - 1) (map f (positions_after before ts)) ≡ f here ∷ drop left (map f (positions_after before ts))
   pub walk : Walk before ts (left - 1) (here - width_of (term here))
 
 pub step : (term : ℕ → Term) (k before : ℕ) (ts : List Term) (left here : ℕ) → map term (positions_after before ts) ≡ ts

@@ -18,7 +18,8 @@ pub record Laws : Type 0 where
   pub peak : (names : List ℕ) (own named : TaskSystem) (order : List ℕ) → IsRenamed names own named → IsTraversal own order
       → peak_of named (map (name_in names) order) ≡ peak_of own order
   pub least : (names : List ℕ) (own named : TaskSystem) (peak : ℕ) → IsRenamed names own named → IsLeast own peak ↔ IsLeast named peak
-  pub own : (ps : List Position) (plan : PlanValue) → IsTerms ps → IsAccepted (system_of_term (term_of ps)) ps plan → IsLeast (system_of_term (term_of ps)) plan.peak
+  pub own : (ps : List Position) (plan : PlanValue) → IsTerms ps
+      → IsAccepted (system_of_term (term_of ps)) ps plan → IsLeast (system_of_term (term_of ps)) plan.peak
 
 -- the plan with its order in the term's own numbers is accepted there
 pub least_of_renamed : Laws → (names : List ℕ) (system : TaskSystem) (ps : List Position) (plan : PlanValue) → IsTerms ps
@@ -27,6 +28,8 @@ least_of_renamed laws names system ps plan terms same accepted =
     let own = system_of_term (term_of ps) in
     let found = laws.each names own system plan.order same accepted.traversal in
     let own_plan : PlanValue = record { order = found.0; peak = plan.peak; claims = plan.claims; priority = plan.priority } in
-    let walked : peak_of own found.0 ≡ plan.peak = sym (laws.peak names own system found.0 same found.1) ∙ ap (peak_of system) (sym found.2) ∙ accepted.peak in
-    let accepts : IsAccepted own ps own_plan = record { traversal = found.1; peak = walked; root = accepted.root; claims = accepted.claims } in
+    let walked : peak_of own found.0 ≡ plan.peak =
+    sym (laws.peak names own system found.0 same found.1) ∙ ap (peak_of system) (sym found.2) ∙ accepted.peak in
+    let accepts : IsAccepted own ps own_plan =
+    record { traversal = found.1; peak = walked; root = accepted.root; claims = accepted.claims } in
     (laws.least names own system plan.peak same).0 (laws.own ps own_plan terms accepts)

@@ -25,16 +25,19 @@ pub root_at : (ps : List Position) (plan : PlanValue) (cs : List Claim) (last : 
     → IsTrue answer ↔ (pos peak ≤ℤ (c.bound +ℤ pos 1)) → IsTrue answer ↔ HasRoot ps plan
 root_at ps plan cs last o c peak answer peak_is claims is_last at is judged =
     let here : claim_at plan.claims (length ps) ≡ Some (claim_of c) =
-    subst (λ n. claim_at plan.claims n ≡ Some (claim_of c)) is_last (subst (λ l. claim_at l last ≡ Some (claim_of c)) claims (sym at ∙ ap (option_map claim_of) is)) in (
+    subst (λ n. claim_at plan.claims n ≡ Some (claim_of c)) is_last
+    (subst (λ l. claim_at l last ≡ Some (claim_of c)) claims (sym at ∙ ap (option_map claim_of) is)) in (
       (λ t. (claim_of c, here, subst (λ n. pos n ≤ℤ (c.bound +ℤ pos 1)) peak_is (judged.0 t))),
-      (λ h. judged.1 (subst (λ n. pos n ≤ℤ (c.bound +ℤ pos 1)) (sym peak_is) (subst (λ (x : RuleClaim). pos plan.peak ≤ℤ (x.bound +ℤ pos 1)) (same (sym h.1 ∙ here)) h.2))),
+      (λ h. judged.1 (subst (λ n. pos n ≤ℤ (c.bound +ℤ pos 1)) (sym peak_is)
+          (subst (λ (x : RuleClaim). pos plan.peak ≤ℤ (x.bound +ℤ pos 1)) (same (sym h.1 ∙ here)) h.2))),
     )
   where
     same : {x y : RuleClaim} → Some x ≡ Some y → x ≡ y
     same e = cc
 
 pub settled : (system : TaskSystem) (ps : List Position) (plan : PlanValue) (order : List ℕ) (replayed printed : ℕ)
-    → (claims : List Claim) (view : Claimed) → order ≡ plan.order → IsTraversal system order × (replayed ≡ peak_of system order) → printed ≡ plan.peak → replayed ≡ printed
+    → (claims : List Claim) (view : Claimed) → order ≡ plan.order
+    → IsTraversal system order × (replayed ≡ peak_of system order) → printed ≡ plan.peak → replayed ≡ printed
     → view ≡ record { positions = ps; claims = claims } → HasRoot view.positions plan → IsSettled system ps plan
 settled system ps plan order replayed printed claims view order_is walked printed_is same view_is root = record {
   traversal = subst (IsTraversal system) order_is walked.0;

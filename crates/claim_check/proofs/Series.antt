@@ -17,7 +17,8 @@ true_le m n t = grind arith
 le_true : (m n : ℕ) → m ≤ n → IsTrue (nat_le m n)
 le_true m n le = grind arith
 
-pub has_here : (claim : Option Claim) (c : Claim) (d : Direction) (bound : ℤ) (rest : ℕ) → claim ≡ Some c → c.direction ≡ d → c.bound ≡ bound
+pub has_here : (claim : Option Claim) (c : Claim) (d : Direction) (bound : ℤ) (rest : ℕ)
+    → claim ≡ Some c → c.direction ≡ d → c.bound ≡ bound
     → IsTrue (nat_le rest c.rest) ↔ Has d bound rest claim
 has_here claim c d bound rest e dir same = (
   λ t. (c, e, dir, same, true_le rest c.rest t),

@@ -1,5 +1,6 @@
 -- The parts of a series, and the rule at a position.
-use Rattle.std.proofs.Common.{◌≡◌, sym, ap, ◌∙◌, subst, ℕ, suc, ◌+◌, ◌-◌, ◌<◌, ◌≤◌, All, IsTrue, List, [], ◌∷◌, Bool, false, map, get_or, Option, arith}
+use Rattle.std.proofs.Common.{◌≡◌, sym, ap, ◌∙◌, subst, ℕ, suc, ◌+◌, ◌-◌, ◌<◌, ◌≤◌, All, IsTrue}
+use Rattle.std.proofs.Common.{List, [], ◌∷◌, Bool, false, map, get_or, Option, arith}
 use Rattle.std.specs.Prelude.{◌↔◌}
 use Rattle.std.proofs.lemmas.List.Elements.{All-get_or}
 use Rattle.mp_system.specs.declared.system.Task.{Task}
@@ -34,8 +35,10 @@ series_of ps k v p (a, b, is) =
     subst (λ t. map (term_of_position ps) (part_positions k t) ≡ parts_of t) is p.parts in
     let within : All (λ j. (1 ≤ j) × (j < k)) (part_positions k (series a v b)) =
     subst (λ t. All (λ j. (1 ≤ j) × (j < k)) (part_positions k t)) is p.before in
-    let one : (1 ≤ before + width_of a) × (before + width_of a < k) = All-get_or (λ j. (1 ≤ j) × (j < k)) (part_positions k (series a v b)) 0 0 (omega arith) within in
-    let two : (1 ≤ before + width_of a + width_of b) × (before + width_of a + width_of b < k) = All-get_or (λ j. (1 ≤ j) × (j < k)) (part_positions k (series a v b)) 1 0 (omega arith) within in
+    let one : (1 ≤ before + width_of a) × (before + width_of a < k) =
+    All-get_or (λ j. (1 ≤ j) × (j < k)) (part_positions k (series a v b)) 0 0 (omega arith) within in
+    let two : (1 ≤ before + width_of a + width_of b) × (before + width_of a + width_of b < k) =
+    All-get_or (λ j. (1 ≤ j) × (j < k)) (part_positions k (series a v b)) 1 0 (omega arith) within in
     let last_place : before + width_of a + width_of b ≡ k - 1 = omega (arith, one, two) in
     let first_place : before + width_of a ≡ k - 1 - width_of b = omega (arith, one, two) in
     let fits = subst IsAllowed is p.allowed in
@@ -57,17 +60,22 @@ series_of ps k v p (a, b, is) =
     second : {x y z w : Term} → x ∷ y ∷ [] ≡ z ∷ w ∷ [] → y ≡ w
     second e = cc
 
-pub series_at : (ps : List Position) (k : ℕ) (v : Task) → IsPlaced ps k → ((d : Position) → get_or ps (k - 1) d ≡ at_task v) → SeriesAt ps k v
+pub series_at : (ps : List Position) (k : ℕ) (v : Task) → IsPlaced ps k
+    → ((d : Position) → get_or ps (k - 1) d ≡ at_task v) → SeriesAt ps k v
 series_at ps k v placed is = series_of ps k v placed (own_at ps k placed (at_task v) is)
 
-pub series_judged : (ps : List Position) (k : ℕ) (v : Task) (s : SeriesAt ps k v) (f : ℕ → Option Claim) (c : Claim) (answer : Bool) (p q : Option Claim)
-    → p ≡ f (k - 1 - width_of s.last) → q ≡ f (k - 1) → IsTrue answer ↔ MeetsSeries s.first v s.last p q c → IsTrue answer ↔ MeetsAt ps f k c
+pub series_judged :
+    (ps : List Position) (k : ℕ) (v : Task) (s : SeriesAt ps k v) (f : ℕ → Option Claim) (c : Claim) (answer : Bool) (p q : Option Claim)
+    → p ≡ f (k - 1 - width_of s.last) → q ≡ f (k - 1)
+    → IsTrue answer ↔ MeetsSeries s.first v s.last p q c → IsTrue answer ↔ MeetsAt ps f k c
 series_judged ps k v s f c answer p q p_is q_is judged =
-    let claims : map f (part_positions k (series s.first v s.last)) ≡ p ∷ q ∷ [] = ap (map f) s.ends ∙ (λ i. sym p_is i ∷ sym q_is i ∷ []) in
+    let claims : map f (part_positions k (series s.first v s.last)) ≡ p ∷ q ∷ [] =
+    ap (map f) s.ends ∙ (λ i. sym p_is i ∷ sym q_is i ∷ []) in
     subst (λ t. IsTrue answer ↔ MeetsRule t (map f (part_positions k t)) c) (sym s.is)
     (subst (λ cs. IsTrue answer ↔ MeetsRule (series s.first v s.last) cs c) (sym claims) judged)
 
-pub data_judged : (ps : List Position) (k size : ℕ) (f : ℕ → Option Claim) (c : Claim) (answer : Bool) → IsTermAt (Hold size) (term_of_position ps k)
+pub data_judged : (ps : List Position) (k size : ℕ) (f : ℕ → Option Claim) (c : Claim) (answer : Bool)
+    → IsTermAt (Hold size) (term_of_position ps k)
     → IsTrue answer ↔ MeetsData size c → IsTrue answer ↔ MeetsAt ps f k c
 data_judged ps k size f c answer is judged = subst (λ t. IsTrue answer ↔ MeetsRule t (map f (part_positions k t)) c) (sym is) judged
 
@@ -77,8 +85,10 @@ par_rule : (ps : List Position) (k parts : ℕ) (f : ℕ → Option Claim) (c : 
 par_rule ps k parts f c (ts, n, is) =
     subst (λ t. MeetsRule t (claims_at ps f k) c ↔ MeetsPar (parts_of t) (claims_at ps f k) c) (sym is) ((λ m. m), (λ m. m))
 
-pub par_judged : (ps : List Position) (k parts : ℕ) (f : ℕ → Option Claim) (c : Claim) (total : ℕ) (some answer : Bool) → IsTermAt (Par parts) (term_of_position ps k)
-    → total ≡ values_in c.direction (parts_at ps k) (claims_at ps f k) → IsTrue some ↔ SomeClaim (claims_at ps f k) → IsTrue some → c.rest ≤ total
+pub par_judged : (ps : List Position) (k parts : ℕ) (f : ℕ → Option Claim) (c : Claim) (total : ℕ) (some answer : Bool)
+    → IsTermAt (Par parts) (term_of_position ps k)
+    → total ≡ values_in c.direction (parts_at ps k) (claims_at ps f k)
+    → IsTrue some ↔ SomeClaim (claims_at ps f k) → IsTrue some → c.rest ≤ total
     → IsTrue answer ↔ HaveRoom c.direction c.bound total (parts_at ps k) (claims_at ps f k) → IsTrue answer ↔ MeetsAt ps f k c
 par_judged ps k parts f c total some answer here total_is some_is is_some rest judged =
     let rule = par_rule ps k parts f c here in (
@@ -90,12 +100,14 @@ par_judged ps k parts f c total some answer here total_is some_is is_some rest j
       (λ m. judged.1 (subst (λ n. HaveRoom c.direction c.bound n (parts_at ps k) (claims_at ps f k)) (sym total_is) (rule.0 m).room)),
     )
 
-pub par_unclaimed : (ps : List Position) (k parts : ℕ) (f : ℕ → Option Claim) (c : Claim) (some : Bool) → IsTermAt (Par parts) (term_of_position ps k)
+pub par_unclaimed : (ps : List Position) (k parts : ℕ) (f : ℕ → Option Claim) (c : Claim) (some : Bool)
+    → IsTermAt (Par parts) (term_of_position ps k)
     → IsTrue some ↔ SomeClaim (claims_at ps f k) → some ≡ false → IsTrue false ↔ MeetsAt ps f k c
 par_unclaimed ps k parts f c some here some_is none =
     ((λ (h : IsTrue false). cc), (λ m. sym none ∙ some_is.1 ((par_rule ps k parts f c here).0 m).some))
 
-pub par_below : (ps : List Position) (k parts : ℕ) (f : ℕ → Option Claim) (c : Claim) (total : ℕ) → IsTermAt (Par parts) (term_of_position ps k)
+pub par_below : (ps : List Position) (k parts : ℕ) (f : ℕ → Option Claim) (c : Claim) (total : ℕ)
+    → IsTermAt (Par parts) (term_of_position ps k)
     → total ≡ values_in c.direction (parts_at ps k) (claims_at ps f k) → total < c.rest → IsTrue false ↔ MeetsAt ps f k c
 par_below ps k parts f c total here total_is below =
     ((λ (h : IsTrue false). cc), (λ m. absurd (let r = ((par_rule ps k parts f c here).0 m).rest in omega (arith, r, total_is, below))))

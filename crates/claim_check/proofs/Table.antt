@@ -1,5 +1,6 @@
 -- The table of the claims' positions.
-use Rattle.std.proofs.Common.{◌≡◌, ◌==◌, refl, sym, ap, ◌∙◌, subst, ℕ, zero, suc, ◌+◌, ◌-◌, ◌<◌, ◌≤◌, max, List, [], ◌∷◌, ◌++◌, length, drop, get_or, length-append, Bool, true, false, Some, None, arith}
+use Rattle.std.proofs.Common.{◌≡◌, ◌==◌, refl, sym, ap, ◌∙◌, subst, ℕ, zero, suc, ◌+◌, ◌-◌, ◌<◌, ◌≤◌, max, List, []}
+use Rattle.std.proofs.Common.{◌∷◌, ◌++◌, length, drop, get_or, length-append, Bool, true, false, Some, None, arith}
 use Rattle.std.specs.Prelude.{option_map, slice_get, is_some}
 use Rattle.std.specs.List.{list_any}
 use Rattle.std.proofs.lemmas.Grind.{common_steps}
@@ -33,7 +34,8 @@ none_before n (c ∷ cs) k rise le =
     (λ e. rw e (none_before c.position cs k rise.1 (omega (arith, rise.0))))
 
 -- the claims from a number on
-dropped : {A : Type 0} (n : ℕ) (xs : List A) (y : A) (ys : List A) → drop n xs ≡ y ∷ ys → (drop (suc n) xs ≡ ys) × (suc n ≤ length xs) × (slice_get xs n ≡ Some y)
+dropped : {A : Type 0} (n : ℕ) (xs : List A) (y : A) (ys : List A) → drop n xs ≡ y ∷ ys
+    → (drop (suc n) xs ≡ ys) × (suc n ≤ length xs) × (slice_get xs n ≡ Some y)
 dropped zero [] y ys e = cc
 dropped zero (x ∷ xs) y ys e = (cc, omega arith, cc)
 dropped (suc n) [] y ys e = cc
@@ -76,7 +78,8 @@ none_here claims table done passed f rise = record {
   rising = rise;
   later = λ k lt. f.later k (omega arith);
   is = more_entries claims table 0 f.is (omega arith)
-      (sym (ap (λ n. claim_at claims (n + 1)) f.len ∙ f.later (done + 1) (omega arith) ∙ none_before (done + 1) (drop passed claims) (done + 1) rise (omega arith)));
+      (sym (ap (λ n. claim_at claims (n + 1)) f.len ∙ f.later (done + 1) (omega arith)
+      ∙ none_before (done + 1) (drop passed claims) (done + 1) rise (omega arith)));
 }
 
 -- the first of the claims that are left stands there
@@ -94,7 +97,8 @@ one_here claims table done passed f c cs e at =
       len = omega (arith, length-append table ((passed + 1) ∷ []), f.len);
       passed_some = omega (arith, d.1);
       rising = subst (λ l. RiseFrom (done + 1) l) (sym tail) (subst (λ n. RiseFrom n cs) at rise.1);
-      later = λ k lt. f.later k (omega arith) ∙ ap (λ l. claim_at l k) e ∙ passed_by c cs k (λ s. omega arith) ∙ ap (λ l. claim_at l k) (sym tail);
+      later = λ k lt. f.later k (omega arith) ∙ ap (λ l. claim_at l k) e
+          ∙ passed_by c cs k (λ s. omega arith) ∙ ap (λ l. claim_at l k) (sym tail);
       is = more_entries claims table (passed + 1) f.is (omega (arith, d.1))
           (ap (λ n. option_map claim_of (named_claim claims n)) (sym more) ∙ ap (option_map claim_of) (named_next claims passed ∙ d.2)
           ∙ sym here ∙ ap (λ n. claim_at claims (n + 1)) (sym f.len));
@@ -132,7 +136,8 @@ filled_from claims table done passed f (c ∷ cs) e =
 pub filled_more : (claims : List Claim) (table : List ℕ) (done passed e : ℕ) → e ≡ entry_of (drop passed claims) passed (done + 1)
     → Filled claims table done passed → Filled claims (table ++ e ∷ []) (done + 1) (max passed e)
 filled_more claims table done passed e is f =
-    subst (λ n. Filled claims (table ++ n ∷ []) (done + 1) (max passed n)) (sym is) (filled_from claims table done passed f (drop passed claims) refl)
+    subst (λ n. Filled claims (table ++ n ∷ []) (done + 1) (max passed n))
+    (sym is) (filled_from claims table done passed f (drop passed claims) refl)
 
 -- whether some claim stands at a position
 pub some_claim : (claims : List Claim) (k : ℕ) → list_any (λ (c : Claim). c.position == k) claims ≡ is_some (claim_at claims k)

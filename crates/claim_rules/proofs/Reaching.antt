@@ -37,9 +37,11 @@ weaker t d limit rest less le h = record {
 }
 
 -- the claim that a rule asks for holds
-pub has_holds : (t : Term) (o : Option Claim) (d : Direction) (bound : ℤ) (rest : ℕ) → HoldsIf t o → Has d bound rest o → Holds t d (limit_of bound) rest
+pub has_holds : (t : Term) (o : Option Claim) (d : Direction) (bound : ℤ) (rest : ℕ)
+    → HoldsIf t o → Has d bound rest o → Holds t d (limit_of bound) rest
 has_holds t o d bound rest h (c, is, direction, at, le) =
-    let own : Holds t c.direction (limit_of c.bound) rest = weaker t c.direction (limit_of c.bound) c.rest rest le (subst (HoldsIf t) is h) in
+    let own : Holds t c.direction (limit_of c.bound) rest =
+    weaker t c.direction (limit_of c.bound) c.rest rest le (subst (HoldsIf t) is h) in
     subst (λ (e : Direction). Holds t e (limit_of bound) rest) direction (subst (λ (b : ℤ). Holds t c.direction (limit_of b) rest) at own)
 
 -- a state that is reached is below the limit
@@ -50,12 +52,14 @@ module _ (laws : StateLaws) where
   back_step backward t s r s' h = laws.back forward t s s' r h
 
   -- what is reached from both ends lies on a way from one to the other
-  whole_from : (d : Direction) {e : Direction} {t : Term} {limit : ℕ} {s : State t} → e ≡ other d → Reached d t limit s → Reached e t limit s → Reached d t limit (first_state e t)
+  whole_from : (d : Direction) {e : Direction} {t : Term} {limit : ℕ} {s : State t}
+      → e ≡ other d → Reached d t limit s → Reached e t limit s → Reached d t limit (first_state e t)
   whole_from d same w (begin h) = w
   whole_from d {e} {t} same w (next {s} {s'} {r} back step lt m) =
       whole_from d same (next w (back_step d t s r s' (subst (λ x. Step x t s r s') same step)) lt (reached-below back)) back
 
-  pub whole : (d : Direction) (t : Term) (limit : ℕ) → Reached (other d) t limit (first_state d t) → Reached d t limit (first_state (other d) t)
+  pub whole : (d : Direction) (t : Term) (limit : ℕ)
+      → Reached (other d) t limit (first_state d t) → Reached d t limit (first_state (other d) t)
   whole d t limit back = whole_from d refl (begin (reached-below back)) back
 
   -- whichever direction a claim has, no way in either direction passes the term

@@ -20,7 +20,8 @@ data_holds size c h =
       start = h.1;
     }
 
-pub rule_holds : StateLaws → (t : Term) (cs : List (Option Claim)) (c : Claim) → HoldEach (parts_of t) cs → MeetsRule t cs c → Holds t c.direction (limit_of c.bound) c.rest
+pub rule_holds : StateLaws → (t : Term) (cs : List (Option Claim)) (c : Claim)
+    → HoldEach (parts_of t) cs → MeetsRule t cs c → Holds t c.direction (limit_of c.bound) c.rest
 rule_holds laws (hold size) cs c h m = data_holds size c m
 rule_holds laws (series a v b) [] c h m = absurd m
 rule_holds laws (series a v b) (p ∷ []) c h m = absurd m

@@ -15,7 +15,8 @@ abbrev Come : (a : Term) (v : Task) (b : Term) (limit : ℕ) → State a ⊎ Sta
 Come a v b limit (inl s) = Reached forward a limit s
 Come a v b limit (inr s) = Reached forward a limit (first_state backward a) × (hill_of a v b < limit) × Reached forward b limit s
 
-come_further : (a : Term) (v : Task) (b : Term) (limit r : ℕ) (s s' : State a ⊎ State b) → Come a v b limit s → Step forward (series a v b) s r s' → r < limit → memory_of (series a v b) s' < limit → Come a v b limit s'
+come_further : (a : Term) (v : Task) (b : Term) (limit r : ℕ) (s s' : State a ⊎ State b) → Come a v b limit s
+    → Step forward (series a v b) s r s' → r < limit → memory_of (series a v b) s' < limit → Come a v b limit s'
 come_further a v b limit r (inl s) (inl s') w step lt m = next w step lt m
 come_further a v b limit r (inl s) (inr s') w (e, f, k) lt m = (
   subst (Reached forward a limit) e w,
@@ -35,7 +36,8 @@ abbrev ComeBack : (a : Term) (v : Task) (b : Term) (limit : ℕ) → State a ⊎
 ComeBack a v b limit (inr s) = Reached backward b limit s
 ComeBack a v b limit (inl s) = Reached backward b limit (first_state forward b) × (hill_of a v b < limit) × Reached backward a limit s
 
-come_further_back : (a : Term) (v : Task) (b : Term) (limit r : ℕ) (s s' : State a ⊎ State b) → ComeBack a v b limit s → Step backward (series a v b) s r s' → r < limit → memory_of (series a v b) s' < limit → ComeBack a v b limit s'
+come_further_back : (a : Term) (v : Task) (b : Term) (limit r : ℕ) (s s' : State a ⊎ State b) → ComeBack a v b limit s
+    → Step backward (series a v b) s r s' → r < limit → memory_of (series a v b) s' < limit → ComeBack a v b limit s'
 come_further_back a v b limit r (inr s) (inr s') w step lt m = next w step lt m
 come_further_back a v b limit r (inr s) (inl s') w (e, f, k) lt m = (
   subst (Reached backward b limit) f w,
@@ -45,7 +47,8 @@ come_further_back a v b limit r (inr s) (inl s') w (e, f, k) lt m = (
 come_further_back a v b limit r (inl s) (inr s') w step lt m = absurd step
 come_further_back a v b limit r (inl s) (inl s') (u, h, w) step lt m = (u, h, next w step lt m)
 
-come_back : {a : Term} {v : Task} {b : Term} {limit : ℕ} {s : State a ⊎ State b} → Reached backward (series a v b) limit s → ComeBack a v b limit s
+come_back : {a : Term} {v : Task} {b : Term} {limit : ℕ} {s : State a ⊎ State b}
+    → Reached backward (series a v b) limit s → ComeBack a v b limit s
 come_back (begin m) = begin m
 come_back {a} {v} {b} {limit} (next {s} {s'} {r} w step lt m) = come_further_back a v b limit r s s' (come_back w) step lt m
 
@@ -55,16 +58,20 @@ record Passed (d : Direction) (a : Term) (v : Task) (b : Term) (limit : ℕ) : T
   middle : hill_of a v b < limit
   two : Reached d b limit (first_state (other d) b)
 
-passed : (d : Direction) (a : Term) (v : Task) (b : Term) (limit : ℕ) → Reached d (series a v b) limit (first_state (other d) (series a v b)) → Passed d a v b limit
-passed forward a v b limit w = let f : Come a v b limit (inr (first_state backward b)) = come w in record { one = f.0; middle = f.1; two = f.2 }
-passed backward a v b limit w = let f : ComeBack a v b limit (inl (first_state forward a)) = come_back w in record { one = f.2; middle = f.1; two = f.0 }
+passed : (d : Direction) (a : Term) (v : Task) (b : Term) (limit : ℕ)
+    → Reached d (series a v b) limit (first_state (other d) (series a v b)) → Passed d a v b limit
+passed forward a v b limit w = let f : Come a v b limit (inr (first_state backward b)) = come w in
+    record { one = f.0; middle = f.1; two = f.2 }
+passed backward a v b limit w = let f : ComeBack a v b limit (inl (first_state forward a)) = come_back w in
+    record { one = f.2; middle = f.1; two = f.0 }
 
 -- what holds of a series, said of its parts
 
 series_forward : (a : Term) (v : Task) (b : Term) (limit rest : ℕ)
     → (Passed forward a v b limit → ⊥)
     → ((s : State a) → Reached forward a limit s → rest ≤ memory_of a s)
-    → ((s : State b) → Reached forward a limit (first_state backward a) → hill_of a v b < limit → Reached forward b limit s → rest ≤ memory_of b s)
+    → ((s : State b) → Reached forward a limit (first_state backward a)
+    → hill_of a v b < limit → Reached forward b limit s → rest ≤ memory_of b s)
     → rest ≤ first_memory forward a
     → Holds (series a v b) forward limit rest
 series_forward a v b limit rest never early late start = record {
@@ -80,7 +87,8 @@ series_forward a v b limit rest never early late start = record {
 series_backward : (a : Term) (v : Task) (b : Term) (limit rest : ℕ)
     → (Passed backward a v b limit → ⊥)
     → ((s : State b) → Reached backward b limit s → rest ≤ memory_of b s)
-    → ((s : State a) → Reached backward b limit (first_state forward b) → hill_of a v b < limit → Reached backward a limit s → rest ≤ memory_of a s)
+    → ((s : State a) → Reached backward b limit (first_state forward b)
+    → hill_of a v b < limit → Reached backward a limit s → rest ≤ memory_of a s)
     → rest ≤ first_memory backward b
     → Holds (series a v b) backward limit rest
 series_backward a v b limit rest never early late start = record {
@@ -93,8 +101,10 @@ series_backward a v b limit rest never early late start = record {
     go (inr s) w = early s w
     go (inl s) w = late s w.0 w.1 w.2
 
-module _ (laws : StateLaws) (a : Term) (v : Task) (b : Term) (p q : Option Claim) (bound : ℤ) (rest : ℕ) (one : HoldsIf a p) (two : HoldsIf b q) where
-  forward_holds : MeetsSeries a v b p q (record { direction = forward; bound = bound; rest = rest }) → Holds (series a v b) forward (limit_of bound) rest
+module _ (laws : StateLaws) (a : Term) (v : Task) (b : Term) (p q : Option Claim)
+    (bound : ℤ) (rest : ℕ) (one : HoldsIf a p) (two : HoldsIf b q) where
+  forward_holds : MeetsSeries a v b p q (record { direction = forward; bound = bound; rest = rest })
+      → Holds (series a v b) forward (limit_of bound) rest
   forward_holds (first_is_stuck h) =
       let c = has_holds a p forward bound rest one h in
       series_forward a v b (limit_of bound) rest
@@ -124,7 +134,8 @@ module _ (laws : StateLaws) (a : Term) (v : Task) (b : Term) (p q : Option Claim
       (λ s u k w. c.rest s w)
       (omega (arith, m, least-le-first laws forward a))
 
-  backward_holds : MeetsSeries a v b p q (record { direction = backward; bound = bound; rest = rest }) → Holds (series a v b) backward (limit_of bound) rest
+  backward_holds : MeetsSeries a v b p q (record { direction = backward; bound = bound; rest = rest })
+      → Holds (series a v b) backward (limit_of bound) rest
   backward_holds (first_is_stuck h) =
       let c = has_holds b q backward bound rest two h in
       series_backward a v b (limit_of bound) rest
@@ -154,9 +165,11 @@ module _ (laws : StateLaws) (a : Term) (v : Task) (b : Term) (p q : Option Claim
       (λ s u k w. c.rest s w)
       (omega (arith, m, least-le-first laws backward b))
 
-pub series_holds : (laws : StateLaws) (a : Term) (v : Task) (b : Term) (p q : Option Claim) (c : Claim) → HoldsIf a p → HoldsIf b q → MeetsSeries a v b p q c → Holds (series a v b) c.direction (limit_of c.bound) c.rest
+pub series_holds : (laws : StateLaws) (a : Term) (v : Task) (b : Term) (p q : Option Claim) (c : Claim)
+    → HoldsIf a p → HoldsIf b q → MeetsSeries a v b p q c → Holds (series a v b) c.direction (limit_of c.bound) c.rest
 series_holds laws a v b p q c one two = go c.direction c.bound c.rest
   where
-    go : (d : Direction) (bound : ℤ) (rest : ℕ) → MeetsSeries a v b p q (record { direction = d; bound = bound; rest = rest }) → Holds (series a v b) d (limit_of bound) rest
+    go : (d : Direction) (bound : ℤ) (rest : ℕ) → MeetsSeries a v b p q (record { direction = d; bound = bound; rest = rest })
+        → Holds (series a v b) d (limit_of bound) rest
     go forward bound rest = forward_holds laws a v b p q bound rest one two
     go backward bound rest = backward_holds laws a v b p q bound rest one two

@@ -22,7 +22,8 @@ use Rattle.claim_rules.proofs.Rules.{rule_holds, derived_holds}
 pub record WayLaws : Type 0 where
   pub traversal : (t : Term) → IsAllowed t → (order : List ℕ) → IsTraversal (system_of_term t) order
       → Way forward 1 t (first_state forward t) order (peak_of (system_of_term t) order) (first_state backward t)
-  pub way : (t : Term) → IsAllowed t → (order : List ℕ) (peak : ℕ) → Way forward 1 t (first_state forward t) order peak (first_state backward t)
+  pub way : (t : Term) → IsAllowed t → (order : List ℕ) (peak : ℕ)
+      → Way forward 1 t (first_state forward t) order peak (first_state backward t)
       → IsTraversal (system_of_term t) order × (peak ≡ peak_of (system_of_term t) order)
   pub cut : (t : Term) → IsAllowed t → (done rest : List ℕ) → IsTraversal (system_of_term t) (done ++ rest)
       → (s : State t) × (memory_after (system_of_term t) done ≡ memory_of t s)
@@ -32,28 +33,37 @@ pub record WayLaws : Type 0 where
       → Way forward 1 t (first_state forward t) done before s → Way forward 1 t s rest after (first_state backward t)
       → IsTraversal (system_of_term t) (done ++ rest) × (memory_after (system_of_term t) done ≡ memory_of t s)
       × (before ≡ peak_of (system_of_term t) done) × (after ≡ peak_from (system_of_term t) done rest)
-  pub back : (d : Direction) (base : ℕ) (t : Term) (s u : State t) (xs : List ℕ) (h : ℕ) → Way d base t s xs h u → Way (other d) base t u (reverse xs) h s
+  pub back : (d : Direction) (base : ℕ) (t : Term) (s u : State t) (xs : List ℕ) (h : ℕ)
+      → Way d base t s xs h u → Way (other d) base t u (reverse xs) h s
   pub each : (d : Direction) (base : ℕ) (t : Term) (s : State t) → (xs : List ℕ) × (h : ℕ) × Way d base t (first_state d t) xs h s
   pub reached : (d : Direction) (t : Term) (limit : ℕ) (s : State t)
       → Reached d t limit s ↔ ((xs : List ℕ) × (h : ℕ) × Way d 1 t (first_state d t) xs h s × (h < limit))
 
 module _ (states : StateLaws) (ways : WayLaws) (t : Term) (allowed : IsAllowed t) where
   -- the way of a traversal below the limit
-  through : (limit : ℕ) (order : List ℕ) → IsTraversal (system_of_term t) order → peak_of (system_of_term t) order < limit → Reached forward t limit (first_state backward t)
+  through : (limit : ℕ) (order : List ℕ) → IsTraversal (system_of_term t) order
+      → peak_of (system_of_term t) order < limit → Reached forward t limit (first_state backward t)
   through limit order traversal lt =
-      (ways.reached forward t limit (first_state backward t)).1 (order, peak_of (system_of_term t) order, ways.traversal t allowed order traversal, lt)
+      (ways.reached forward t limit (first_state backward t)).1
+      (order, peak_of (system_of_term t) order, ways.traversal t allowed order traversal, lt)
 
-  not_through : (d : Direction) (limit : ℕ) → (Reached d t limit (first_state (other d) t) → ⊥) → Reached forward t limit (first_state backward t) → ⊥
+  not_through : (d : Direction) (limit : ℕ) → (Reached d t limit (first_state (other d) t) → ⊥)
+      → Reached forward t limit (first_state backward t) → ⊥
   not_through forward limit never w = never w
   not_through backward limit never w = never (whole states backward t limit w)
 
-  no_traversal : (d : Direction) (limit : ℕ) → (Reached d t limit (first_state (other d) t) → ⊥) → (order : List ℕ) → IsTraversal (system_of_term t) order
+  no_traversal : (d : Direction) (limit : ℕ) → (Reached d t limit (first_state (other d) t) → ⊥)
+      → (order : List ℕ) → IsTraversal (system_of_term t) order
       → limit ≤ peak_of (system_of_term t) order
   no_traversal d limit never order traversal =
-      elim (cases_lt (peak_of (system_of_term t) order) limit) [ inl lt ↦ absurd (not_through d limit never (through limit order traversal lt)) | inr le ↦ le ]
+      elim (cases_lt (peak_of (system_of_term t) order) limit) [
+        | inl lt ↦ absurd (not_through d limit never (through limit order traversal lt))
+        | inr le ↦ le
+      ]
 
   -- what is reached along a traversal
-  rest_of : (d : Direction) (limit rest : ℕ) → ((s : State t) → Reached d t limit s → rest ≤ memory_of t s) → (done after : List ℕ) → IsTraversal (system_of_term t) (done ++ after)
+  rest_of : (d : Direction) (limit rest : ℕ) → ((s : State t) → Reached d t limit s → rest ≤ memory_of t s)
+      → (done after : List ℕ) → IsTraversal (system_of_term t) (done ++ after)
       → peak_up_to d (system_of_term t) done after < limit → rest ≤ memory_after (system_of_term t) done
   rest_of forward limit rest each done after traversal lt =
       let (s, memory, before, behind) = ways.cut t allowed done after traversal in
@@ -61,48 +71,61 @@ module _ (states : StateLaws) (ways : WayLaws) (t : Term) (allowed : IsAllowed t
       omega (arith, low, memory)
   rest_of backward limit rest each done after traversal lt =
       let (s, memory, before, behind) = ways.cut t allowed done after traversal in
-      let low : rest ≤ memory_of t s = each s ((ways.reached backward t limit s).1 (reverse after, peak_from (system_of_term t) done after, ways.back forward 1 t s (first_state backward t) after _ behind, lt)) in
+      let low : rest ≤ memory_of t s = each s ((ways.reached backward t limit s).1 (
+        reverse after,
+        peak_from (system_of_term t) done after,
+        ways.back forward 1 t s (first_state backward t) after _ behind,
+        lt,
+      )) in
       omega (arith, low, memory)
 
   pub holds_sound : (c : Claim) → Holds t c.direction (limit_of c.bound) c.rest → IsSound t c
   holds_sound c h = record {
     no_traversal = λ order traversal. above-beyond _ c.bound (no_traversal c.direction (limit_of c.bound) h.no_way order traversal);
-    rest = λ done after traversal within. rest_of c.direction (limit_of c.bound) c.rest h.rest done after traversal (within-below _ c.bound within);
+    rest = λ done after traversal within.
+        rest_of c.direction (limit_of c.bound) c.rest h.rest done after traversal (within-below _ c.bound within);
     start = h.start;
   }
 
   -- a way below the limit is a traversal within the bound
-  forward_passed : (limit : ℕ) → ((order : List ℕ) → IsTraversal (system_of_term t) order → limit ≤ peak_of (system_of_term t) order) → Reached forward t limit (first_state backward t) → ⊥
+  forward_passed : (limit : ℕ) → ((order : List ℕ) → IsTraversal (system_of_term t) order → limit ≤ peak_of (system_of_term t) order)
+      → Reached forward t limit (first_state backward t) → ⊥
   forward_passed limit high w =
       let (order, peak, way, lt) = (ways.reached forward t limit (first_state backward t)).0 w in
       let (traversal, is) = ways.way t allowed order peak way in
       let le : limit ≤ peak_of (system_of_term t) order = high order traversal in
       absurd (omega (arith, lt, is, le))
 
-  passed : (d : Direction) (limit : ℕ) → ((order : List ℕ) → IsTraversal (system_of_term t) order → limit ≤ peak_of (system_of_term t) order) → Reached d t limit (first_state (other d) t) → ⊥
+  passed : (d : Direction) (limit : ℕ)
+      → ((order : List ℕ) → IsTraversal (system_of_term t) order → limit ≤ peak_of (system_of_term t) order)
+      → Reached d t limit (first_state (other d) t) → ⊥
   passed forward limit high w = forward_passed limit high w
   passed backward limit high w = forward_passed limit high (whole states forward t limit w)
 
   rest_from : (d : Direction) (limit rest : ℕ)
-      → ((done after : List ℕ) → IsTraversal (system_of_term t) (done ++ after) → peak_up_to d (system_of_term t) done after < limit → rest ≤ memory_after (system_of_term t) done)
+      → ((done after : List ℕ) → IsTraversal (system_of_term t) (done ++ after)
+      → peak_up_to d (system_of_term t) done after < limit → rest ≤ memory_after (system_of_term t) done)
       → (s : State t) → Reached d t limit s → rest ≤ memory_of t s
   rest_from forward limit rest each s w =
       let (done, before, way, lt) = (ways.reached forward t limit s).0 w in
       let (behind, after, on) = ways.each backward 1 t s in
-      let (traversal, memory, is, _) = ways.joined t allowed s done (reverse behind) before after way (ways.back backward 1 t (first_state backward t) s behind after on) in
+      let (traversal, memory, is, _) = ways.joined t allowed s done (reverse behind) before after way
+      (ways.back backward 1 t (first_state backward t) s behind after on) in
       let low : rest ≤ memory_after (system_of_term t) done = each done (reverse behind) traversal (omega (arith, lt, is)) in
       omega (arith, low, memory)
   rest_from backward limit rest each s w =
       let (behind, after, way, lt) = (ways.reached backward t limit s).0 w in
       let (done, before, on) = ways.each forward 1 t s in
-      let (traversal, memory, _, is) = ways.joined t allowed s done (reverse behind) before after on (ways.back backward 1 t (first_state backward t) s behind after way) in
+      let (traversal, memory, _, is) = ways.joined t allowed s done (reverse behind) before after on
+      (ways.back backward 1 t (first_state backward t) s behind after way) in
       let low : rest ≤ memory_after (system_of_term t) done = each done (reverse behind) traversal (omega (arith, lt, is)) in
       omega (arith, low, memory)
 
   pub sound_holds : (c : Claim) → IsSound t c → Holds t c.direction (limit_of c.bound) c.rest
   sound_holds c s = record {
     no_way = passed c.direction (limit_of c.bound) (λ order traversal. beyond-above _ c.bound (s.no_traversal order traversal));
-    rest = rest_from c.direction (limit_of c.bound) c.rest (λ done after traversal lt. s.rest done after traversal (below-within _ c.bound lt));
+    rest = rest_from c.direction (limit_of c.bound) c.rest
+        (λ done after traversal lt. s.rest done after traversal (below-within _ c.bound lt));
     start = s.start;
   }
 
@@ -127,7 +150,8 @@ hold_each states ways [] a (c ∷ cs) s = s
 hold_each states ways (t ∷ ts) a [] s = s
 hold_each states ways (t ∷ ts) a (c ∷ cs) s = (hold_if states ways t a.0 c s.0, hold_each states ways ts a.1 cs s.1)
 
-pub rule_sound : StateLaws → WayLaws → (t : Term) (cs : List (Option Claim)) (c : Claim) → IsAllowed t → AreSound (parts_of t) cs → MeetsRule t cs c → IsSound t c
+pub rule_sound : StateLaws → WayLaws → (t : Term) (cs : List (Option Claim)) (c : Claim)
+    → IsAllowed t → AreSound (parts_of t) cs → MeetsRule t cs c → IsSound t c
 rule_sound states ways t cs c a s m =
     holds_sound states ways t a c (rule_holds states t cs c (hold_each states ways (parts_of t) (allowed-parts t a) cs s) m)
 

@@ -6,7 +6,8 @@ use Rattle.column_counts.specs.Leaves.{AreSpans, AreAncestors}
 use Rattle.lists.proofs.Lists.{at_other, at_here}
 
 -- a step made twice as long
-pub doubled : (first : ℕ → ℕ) (n j z : ℕ) (ancestor ancestor' : ℕ → ℕ) → AreSpans first → AreAncestors first n j ancestor → 0 < ancestor z → ancestor z < j
+pub doubled : (first : ℕ → ℕ) (n j z : ℕ) (ancestor ancestor' : ℕ → ℕ)
+    → AreSpans first → AreAncestors first n j ancestor → 0 < ancestor z → ancestor z < j
     → ancestor' z ≡ ancestor (ancestor z) → ((x : ℕ) → x ≢ z → ancestor' x ≡ ancestor x) → AreAncestors first n j ancestor'
 doubled first n j z ancestor ancestor' spans can pos below here others = record {
   rises = λ x p. elim (cases_eq x z) [
@@ -29,14 +30,17 @@ doubled first n j z ancestor ancestor' spans can pos below here others = record 
   ];
 }
 
-pub doubled_at : (first : ℕ → ℕ) (n j : ℕ) (table : List ℕ) (z next far : ℕ) → z < length table → next ≡ slice_index table z → far ≡ slice_index table next
-    → AreSpans first → AreAncestors first n j (slice_index table) → 0 < next → next < j → AreAncestors first n j (slice_index (set table z far))
+pub doubled_at : (first : ℕ → ℕ) (n j : ℕ) (table : List ℕ) (z next far : ℕ)
+    → z < length table → next ≡ slice_index table z → far ≡ slice_index table next
+    → AreSpans first → AreAncestors first n j (slice_index table) → 0 < next
+    → next < j → AreAncestors first n j (slice_index (set table z far))
 doubled_at first n j table z next far lt is_next is_far spans can pos below =
     doubled first n j z (slice_index table) (slice_index (set table z far)) spans can (omega arith) (omega arith)
     (at_here table z far lt ∙ is_far ∙ ap (slice_index table) is_next) (at_other table z far)
 
 -- one step up
-pub climbed : (first : ℕ → ℕ) (n p j z next : ℕ) (ancestor : ℕ → ℕ) → next ≡ ancestor z → AreSpans first → AreAncestors first n j ancestor → p ≤ z → z < j → first z ≤ p
+pub climbed : (first : ℕ → ℕ) (n p j z next : ℕ) (ancestor : ℕ → ℕ) → next ≡ ancestor z
+    → AreSpans first → AreAncestors first n j ancestor → p ≤ z → z < j → first z ≤ p
     → ((w : ℕ) → w < n → j ≤ w → first w ≤ p → z ≤ w) → 0 < next → (first next ≤ p) × ((w : ℕ) → w < n → j ≤ w → first w ≤ p → next ≤ w)
 climbed first n p j z next ancestor is spans can pz zj fz least pos =
     let a = can.rises z (omega arith) in

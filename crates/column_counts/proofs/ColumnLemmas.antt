@@ -1,21 +1,25 @@
 -- A column is taken into its own row and into those of its later neighbours, one after another.
-use Rattle.std.proofs.Common.{sym, subst, ◌∙◌, ◌+◌, ◌≡◌, inl, inr, ℕ, ◌<◌, ◌≤◌, Bool, true, IsTrue, List, length, arith, refl, below_more, slice_index}
+use Rattle.std.proofs.Common.{sym, subst, ◌∙◌, ◌+◌, ◌≡◌, inl, inr, ℕ, ◌<◌, ◌≤◌, Bool, true}
+use Rattle.std.proofs.Common.{IsTrue, List, length, arith, refl, below_more, slice_index}
 use Rattle.std.proofs.lemmas.Bool.{cases_eq}
 use Rattle.elim_tree.specs.Forests.{column_in}
 use Rattle.column_counts.specs.declared.leaves.Leaves.{Leaves}
-use Rattle.column_counts.specs.Leaves.{IsInRow, with_entry, AreLeaves, AreTaken, HoldLeaves, AreLeavesBefore, CanTakeColumn, AreLeavesWith, last_of}
+use Rattle.column_counts.specs.Leaves.{IsInRow, with_entry, AreLeaves, AreTaken, HoldLeaves, AreLeavesBefore}
+use Rattle.column_counts.specs.Leaves.{CanTakeColumn, AreLeavesWith, last_of}
 use Rattle.column_counts.proofs.RowLeaves.{entry_old, entry_new, entry_cases}
 
 -- what a call makes of the leaves as column j is taken into row i
 abbrev pub Takes : List ℕ → List ℕ → ℕ → ℕ → Leaves → Leaves → Type 0
-Takes firsts order i j t t' = (taken : ℕ → ℕ → Bool) → HoldLeaves firsts order j taken t → HoldLeaves firsts order j (with_entry taken i j) t'
+Takes firsts order i j t t' =
+    (taken : ℕ → ℕ → Bool) → HoldLeaves firsts order j taken t → HoldLeaves firsts order j (with_entry taken i j) t'
 
 -- .. and of a row that is none of its rows
 abbrev pub LeavesOut : List ℕ → List ℕ → ℕ → Leaves → Leaves → Type 0
 LeavesOut firsts order j t t' = (taken : ℕ → ℕ → Bool) → HoldLeaves firsts order j taken t → HoldLeaves firsts order j taken t'
 
 -- the next column, where that one was taken into all of its rows
-later_leaves : (first : ℕ → ℕ) (n j : ℕ) (taken : ℕ → ℕ → Bool) (last leaves meetings : ℕ → ℕ) → AreLeaves first n j taken last leaves meetings → AreLeaves first n (j + 1) taken last leaves meetings
+later_leaves : (first : ℕ → ℕ) (n j : ℕ) (taken : ℕ → ℕ → Bool) (last leaves meetings : ℕ → ℕ)
+    → AreLeaves first n j taken last leaves meetings → AreLeaves first n (j + 1) taken last leaves meetings
 later_leaves first n j taken last leaves meetings t = record {
   balance = t.balance;
   until = λ i y h. let le = t.until i y h in omega arith;
@@ -24,8 +28,10 @@ later_leaves first n j taken last leaves meetings t = record {
   covers = λ i y x h le. t.covers i y x h (omega arith);
 }
 
-module _ (joined : ℕ → ℕ → Bool) (firsts list order : List ℕ) (j : ℕ) (some : 0 < j) (t₀ : Leaves) (can : CanTakeColumn joined firsts list order j t₀) where
-  with_one : (taken : ℕ → ℕ → Bool) → AreTaken joined (length firsts) j taken → (i : ℕ) → IsInRow joined i j → AreTaken joined (length firsts) j (with_entry taken i j)
+module _ (joined : ℕ → ℕ → Bool) (firsts list order : List ℕ) (j : ℕ) (some : 0 < j)
+    (t₀ : Leaves) (can : CanTakeColumn joined firsts list order j t₀) where
+  with_one : (taken : ℕ → ℕ → Bool) → AreTaken joined (length firsts) j taken → (i : ℕ)
+      → IsInRow joined i j → AreTaken joined (length firsts) j (with_entry taken i j)
   with_one taken old i row = record {
     sound = λ k y h. elim (entry_cases taken i j k y h) [
       | inl e ↦ old.sound k y e
@@ -50,7 +56,8 @@ module _ (joined : ℕ → ℕ → Bool) (firsts list order : List ℕ) (j : ℕ
     pub last_leaf : i < length firsts → 0 < last_of order t i → slice_index firsts i ≤ last_of order t i
     last_leaf most pos = can.below i (last_of order t i) most (with.2.sound i (last_of order t i) (with.1.leaf i pos)).0
 
-    pub next_row : k < length list → j ≤ i → (t' : Leaves) → Takes firsts order i j t t' → AreLeavesWith joined firsts list order j (k + 1) t'
+    pub next_row : k < length list → j ≤ i → (t' : Leaves)
+        → Takes firsts order i j t t' → AreLeavesWith joined firsts list order j (k + 1) t'
     next_row lt from t' takes =
         let row : IsInRow joined i j =
         elim (cases_eq j i) [
@@ -81,7 +88,8 @@ module _ (joined : ℕ → ℕ → Bool) (firsts list order : List ℕ) (j : ℕ
   pub all_rows : (t : Leaves) → AreLeavesWith joined firsts list order j (length list) t → AreLeavesBefore joined firsts order (j + 1) t
   all_rows t with = (
     with.0,
-    later_leaves (slice_index firsts) (length firsts) j with.0 (last_of order t) (slice_index t.leaves.items) (slice_index t.meetings.items) with.1,
+    later_leaves (slice_index firsts) (length firsts) j with.0 (last_of order t)
+        (slice_index t.leaves.items) (slice_index t.meetings.items) with.1,
     record {
       sound = with.2.sound;
       whole = λ i y pos lt most row. elim (cases_eq y j) [

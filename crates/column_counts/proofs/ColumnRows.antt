@@ -15,14 +15,16 @@ use Rattle.column_counts.proofs.SpanRows.{below_row}
 
 -- ---- no column was taken
 
-pub none_taken : (joined : ℕ → ℕ → Bool) (firsts order parents : List ℕ) (t : Leaves) → AreEmpty parents t → AreLeavesBefore joined firsts order 1 t
+pub none_taken : (joined : ℕ → ℕ → Bool) (firsts order parents : List ℕ) (t : Leaves)
+    → AreEmpty parents t → AreLeavesBefore joined firsts order 1 t
 none_taken joined firsts order parents t empty = (
   λ i y. false,
   record {
     balance = λ x lt.
         let p = sum_in_none (slice_index t.leaves.items) (slice_index firsts x) (suc x) (λ y. (empty.clear y).1) in
         let m = sum_in_none (slice_index t.meetings.items) (slice_index firsts x) (suc x) (λ y. (empty.clear y).2) in
-        let k = passing_none (λ i. any_in (λ y. false) (slice_index firsts x) (suc x)) (length firsts) (λ i lt. any_in_none (slice_index firsts x) (suc x)) in
+        let k = passing_none (λ i. any_in (λ y. false) (slice_index firsts x) (suc x))
+        (length firsts) (λ i lt. any_in_none (slice_index firsts x) (suc x)) in
         omega arith;
     until = λ i y h. absurd cc;
     none = λ i e y h. absurd cc;
@@ -59,9 +61,12 @@ short_row rows pattern v =
           )
     ]
 
-module _ (rows : List (List ℕ)) (order : List ℕ) (are : AreRows rows order) (parents : List ℕ) (factor : IsFactor (renumbered (is_joined rows) order) (length order) parents)
-    (firsts : List ℕ) (len : length firsts ≡ length order + 1) (is : IsFirsts parents firsts) (j : ℕ) (list : List ℕ) (e : list ≡ neighbours_of rows (vertex_at order j)) where
-  pub can_take : (t : Leaves) → AreLeavesBefore (renumbered (is_joined rows) order) firsts order j t → CanTakeColumn (renumbered (is_joined rows) order) firsts list order j t
+module _ (rows : List (List ℕ)) (order : List ℕ) (are : AreRows rows order) (parents : List ℕ)
+    (factor : IsFactor (renumbered (is_joined rows) order) (length order) parents)
+    (firsts : List ℕ) (len : length firsts ≡ length order + 1) (is : IsFirsts parents firsts)
+    (j : ℕ) (list : List ℕ) (e : list ≡ neighbours_of rows (vertex_at order j)) where
+  pub can_take : (t : Leaves) → AreLeavesBefore (renumbered (is_joined rows) order) firsts order j t
+      → CanTakeColumn (renumbered (is_joined rows) order) firsts list order j t
   can_take t before = record {
     below = below_row (renumbered (is_joined rows) order) (length order) parents factor firsts len is;
     sound = λ k lt far. factor.pattern.symmetric j (column_in list order k) (joined_in_list rows order are j list e k lt);

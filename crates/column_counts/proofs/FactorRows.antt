@@ -1,10 +1,12 @@
 -- The rows of the factor, by ways up from earlier neighbours, and what marking them all counts.
-use Rattle.std.proofs.Common.{sym, ◌∙◌, subst, ap, ◌+◌, ◌-◌, ◌≡◌, ◌≢◌, ◌↔◌, inl, inr, refl, ℕ, zero, suc, ◌<◌, ◌≤◌, Bool, true, IsTrue, ◌==◌, List, [], ◌∷◌, ◌++◌, length, drop, map, arith, slice_index}
+use Rattle.std.proofs.Common.{sym, ◌∙◌, subst, ap, ◌+◌, ◌-◌, ◌≡◌, ◌≢◌, ◌↔◌, inl, inr, refl, ℕ, zero, suc, ◌<◌, ◌≤◌}
+use Rattle.std.proofs.Common.{Bool, true, IsTrue, ◌==◌, List, [], ◌∷◌, ◌++◌, length, drop, map, arith, slice_index}
 use Rattle.std.specs.List.{range_with_len, count_by}
 use Rattle.std.specs.Cmp.{both_ways}
 use Rattle.std.proofs.lemmas.Bool.{cases_eq, or_cases, or_left, eqb-true, eq-eqb}
 use Rattle.std.proofs.lemmas.List.{ext_get_or}
-use Rattle.std.proofs.lemmas.List.FromFn.{get_or-map-range_with_len, length-map-range_with_len, length-range_with_len, map-range_with_len_more}
+use Rattle.std.proofs.lemmas.List.FromFn.{get_or-map-range_with_len, length-map-range_with_len}
+use Rattle.std.proofs.lemmas.List.FromFn.{length-range_with_len, map-range_with_len_more}
 use Rattle.std.proofs.lemmas.List.Sums.{count_by-le-length}
 use Rattle.limits.specs.Limits.{most_order}
 use Rattle.patterns.specs.Pattern.{neighbours_of, has, is_joined, IsPattern}
@@ -45,7 +47,8 @@ above_le forest self = omega arith
 above_le {parents} {a} {b} forest (step s way) = let up = (forest.rising a s).0 in let rest = above_le forest way in omega arith
 
 -- on the way up from a marked column all before i are marked
-marked_above : (row : Row) (parents : List ℕ) → IsForest parents → (i : ℕ) (counts marks : ℕ → ℕ) → IsMarked row (parent_at parents) i i counts marks
+marked_above : (row : Row) (parents : List ℕ) → IsForest parents
+    → (i : ℕ) (counts marks : ℕ → ℕ) → IsMarked row (parent_at parents) i i counts marks
     → {k x : ℕ} → IsAbove parents k x → marks k ≡ i → x < i → marks x ≡ i
 marked_above row parents forest i counts marks m self e lt = e
 marked_above row parents forest i counts marks m {k} {x} (step some way) e lt =
@@ -60,7 +63,8 @@ pub length_parents : (joined : ℕ → ℕ → Bool) (n : ℕ) (parents : List �
 length_parents joined n parents tree = ap length tree ∙ length-map-range_with_len (parent_of joined n) 1 n
 
 -- a table of all counts, without its place 0
-pub are_counts : (joined : ℕ → ℕ → Bool) (n : ℕ) (table : List ℕ) → length table ≡ suc n → ((x : ℕ) → slice_index table x ≡ count_of joined n x) → drop 1 table ≡ counts_of joined n
+pub are_counts : (joined : ℕ → ℕ → Bool) (n : ℕ) (table : List ℕ) → length table ≡ suc n
+    → ((x : ℕ) → slice_index table x ≡ count_of joined n x) → drop 1 table ≡ counts_of joined n
 are_counts joined n [] long all = absurd (omega arith)
 are_counts joined n (unused ∷ counts) long all =
     ext_get_or 0 counts (counts_of joined n) (let len = length-map-range_with_len (count_of joined n) 1 n in omega arith)
@@ -94,7 +98,8 @@ module _ (joined : ℕ → ℕ → Bool) (n : ℕ) (parents : List ℕ) (factor 
   parent_of_vertex zero vertex = absurd (let some = vertex.0 in omega arith)
   parent_of_vertex (suc j) vertex =
       let le = vertex.1 in
-      ap (λ ps. parent_at ps (suc j)) factor.tree ∙ get_or-map-range_with_len (parent_of joined n) 1 n j (suc j) 0 (omega arith) (omega arith)
+      ap (λ ps. parent_at ps (suc j)) factor.tree
+      ∙ get_or-map-range_with_len (parent_of joined n) 1 n j (suc j) 0 (omega arith) (omega arith)
 
   pub way_of : (x i : ℕ) → x < i → IsTrue (structure_of joined x i) → (k : ℕ) × IsTrue (joined i k) × (k < i) × IsAbove parents k x
   way_of x i lt h = let w = (factor.subtrees i x lt).0 h in (w.0, w.1, w.2, subst (λ ps. IsAbove ps w.0 x) (sym factor.tree) w.3)
@@ -131,7 +136,8 @@ module _ (joined : ℕ → ℕ → Bool) (n : ℕ) (parents : List ℕ) (factor 
   earlier_in_row i k h lt = of_way k i k lt h lt self
 
   -- marked are just the columns that hold the row
-  marks_complete : (row : Row) (i : ℕ) (counts marks : ℕ → ℕ) → IsMarked row (parent_at parents) i i counts marks → ((k : ℕ) → k < i → IsTrue (joined i k) → marks k ≡ i)
+  marks_complete : (row : Row) (i : ℕ) (counts marks : ℕ → ℕ)
+      → IsMarked row (parent_at parents) i i counts marks → ((k : ℕ) → k < i → IsTrue (joined i k) → marks k ≡ i)
       → (x : ℕ) → IsTrue (structure_of joined x i) → marks x ≡ i
   marks_complete row i counts marks m done x h =
       let low = factor.later x i h in
@@ -143,12 +149,14 @@ module _ (joined : ℕ → ℕ → Bool) (n : ℕ) (parents : List ℕ) (factor 
             )
       ]
 
-  counted : (i : ℕ) → 0 < i → (counts marks : ℕ → ℕ) → IsMarked (row_of joined i) (parent_at parents) i i counts marks → ((k : ℕ) → k < i → IsTrue (joined i k) → marks k ≡ i)
+  counted : (i : ℕ) → 0 < i → (counts marks : ℕ → ℕ) → IsMarked (row_of joined i) (parent_at parents) i i counts marks
+      → ((k : ℕ) → k < i → IsTrue (joined i k) → marks k ≡ i)
       → (x : ℕ) → counts x ≡ count_by (structure_of joined x) (range_with_len 1 i)
   counted i some counts marks m done x =
       let same : (marks x == i) ≡ structure_of joined x i = both_ways (marks x == i) (structure_of joined x i)
       (λ e. m.sound x (eqb-true (marks x) i e)) (λ h. eq-eqb (marks x) i (marks_complete (row_of joined i) i counts marks m done x h)) in
-      m.count x ∙ ap (λ b. count_by (structure_of joined x) (range_with_len 1 (i - 1)) + bit b) same ∙ sym (count_to (structure_of joined x) i some)
+      m.count x ∙ ap (λ b. count_by (structure_of joined x) (range_with_len 1 (i - 1)) + bit b) same
+      ∙ sym (count_to (structure_of joined x) i some)
 
 -- ---- rows as lists of neighbours
 
@@ -162,10 +170,12 @@ pub record AreRows (rows : List (List ℕ)) (order : List ℕ) : Type 0 where
 pub few_columns : (rows : List (List ℕ)) (order : List ℕ) → AreRows rows order → length order ≤ most_order
 few_columns rows order are = let few = are.pattern.few in let same = are.same in omega arith
 
-module _ (rows : List (List ℕ)) (order : List ℕ) (are : AreRows rows order) (i : ℕ) (list : List ℕ) (e : list ≡ neighbours_of rows (vertex_at order i)) where
+module _ (rows : List (List ℕ)) (order : List ℕ) (are : AreRows rows order)
+    (i : ℕ) (list : List ℕ) (e : list ≡ neighbours_of rows (vertex_at order i)) where
   pub vertex_in_list : (j : ℕ) → j < length list → slice_index list j ≤ length order
   vertex_in_list j lt =
-      let there : has (neighbours_of rows (vertex_at order i)) (slice_index list j) ≡ true = subst (λ xs. has xs (slice_index list j) ≡ true) e (is_in list (slice_index list j) j lt refl) in
+      let there : has (neighbours_of rows (vertex_at order i)) (slice_index list j) ≡ true =
+      subst (λ xs. has xs (slice_index list j) ≡ true) e (is_in list (slice_index list j) j lt refl) in
       let low = (are.pattern.inside (vertex_at order i) (slice_index list j) there).1 in
       let same = are.same in
       omega arith
@@ -176,7 +186,8 @@ module _ (rows : List (List ℕ)) (order : List ℕ) (are : AreRows rows order) 
       (subst (λ xs. has xs (slice_index list j) ≡ true) e (is_in list (slice_index list j) j lt refl))
 
   -- who is joined to column i stands in the list
-  pub stands_in_list : (k : ℕ) → k ≤ length order → IsTrue (renumbered (is_joined rows) order i k) → (j : ℕ) × (j < length list) × (column_in list order j ≡ k)
+  pub stands_in_list : (k : ℕ) → k ≤ length order → IsTrue (renumbered (is_joined rows) order i k)
+      → (j : ℕ) × (j < length list) × (column_in list order j ≡ k)
   stands_in_list k le h =
       let f = place_in list (vertex_at order k) (subst (λ xs. has xs (vertex_at order k) ≡ true) (sym e) h) in
       (f.0, f.1, ap (place_of order) f.2 ∙ are.place_back k le)
@@ -192,12 +203,16 @@ module _ (rows : List (List ℕ)) (order : List ℕ) (are : AreRows rows order) 
           let long = length-range_with_len 1 (i - 1) in
           let few = few_columns rows order are in
           omega arith,
-      λ j lt below. earlier_in_row (renumbered (is_joined rows) order) (length order) parents factor i (column_in list order j) (joined_in_list j lt) below,
+      λ j lt below. earlier_in_row (renumbered (is_joined rows) order)
+          (length order) parents factor i (column_in list order j) (joined_in_list j lt) below,
       before,
     )
 
-    pub all_marked : 0 < i → (counts marks : List ℕ) → IsMarkedRow (row_of (renumbered (is_joined rows) order) i) i list order (length list) parents counts marks
-        → (x : ℕ) → (slice_index counts x ≡ count_by (structure_of (renumbered (is_joined rows) order) x) (range_with_len 1 i)) × (slice_index marks x < i + 1)
+    pub all_marked : 0 < i → (counts marks : List ℕ)
+        → IsMarkedRow (row_of (renumbered (is_joined rows) order) i) i list order (length list) parents counts marks
+        → (x : ℕ)
+        → (slice_index counts x ≡ count_by (structure_of (renumbered (is_joined rows) order) x) (range_with_len 1 i))
+        × (slice_index marks x < i + 1)
     all_marked some counts marks m x = (
       counted (renumbered (is_joined rows) order) (length order) parents factor i some (slice_index counts) (slice_index marks) m.0
           (λ k lt h.

@@ -1,5 +1,6 @@
 -- One way up a row of the factor: what is marked, and what it takes to go on.
-use Rattle.std.proofs.Common.{sym, ◌∙◌, subst, ap, ◌+◌, ◌^◌, ◌≡◌, ◌≢◌, inl, inr, ℕ, ◌<◌, ◌≤◌, IsTrue, List, length, get_or, arith, ◌==◌, slice_index}
+use Rattle.std.proofs.Common.{sym, ◌∙◌, subst, ap, ◌+◌, ◌^◌, ◌≡◌, ◌≢◌, inl, inr, ℕ, ◌<◌, ◌≤◌}
+use Rattle.std.proofs.Common.{IsTrue, List, length, get_or, arith, ◌==◌, slice_index}
 use Rattle.std.proofs.lemmas.Grind.{get_or_default_zero}
 use Rattle.std.proofs.lemmas.Bool.{cases_eq, eq-eqb, ne_eqb}
 use Rattle.column_counts.specs.Marks.{Row, IsFactorRow, IsMarked, CanGoOn, bit}
@@ -15,7 +16,8 @@ read_at xs i x lt e = e ∙ get_or_default_zero xs i x lt
 -- ---- one step up
 
 -- with each marked column its parent is marked, whatever c is
-pub closed_anywhere : (row : Row) (parent : ℕ → ℕ) (i c : ℕ) (counts marks : ℕ → ℕ) → IsMarked row parent i i counts marks → IsMarked row parent i c counts marks
+pub closed_anywhere : (row : Row) (parent : ℕ → ℕ) (i c : ℕ) (counts marks : ℕ → ℕ)
+    → IsMarked row parent i i counts marks → IsMarked row parent i c counts marks
 closed_anywhere row parent i c counts marks m = record {
   count = m.count;
   sound = m.sound;
@@ -44,7 +46,8 @@ module _ (row : Row) (parent : ℕ → ℕ) (i : ℕ) (is : IsFactorRow parent i
 
   -- one column more is marked
   pub marked_up : (marks c ≡ i → ⊥) → (counts' marks' : ℕ → ℕ) → counts' c ≡ counts c + 1 → ((x : ℕ) → x ≢ c → counts' x ≡ counts x)
-      → marks' c ≡ i → ((x : ℕ) → x ≢ c → marks' x ≡ marks x) → IsMarked row parent i (parent c) counts' marks' × IsTrue (row.holds (parent c))
+      → marks' c ≡ i → ((x : ℕ) → x ≢ c → marks' x ≡ marks x)
+      → IsMarked row parent i (parent c) counts' marks' × IsTrue (row.holds (parent c))
   marked_up unmarked counts' marks' hc oc hm om = (
     record {
       count = λ x. elim (cases_eq x c) [
@@ -78,8 +81,10 @@ module _ (row : Row) (parent : ℕ → ℕ) (i : ℕ) (is : IsFactorRow parent i
 
 -- ---- a row begins with itself
 
-pub row_start : (row : Row) (parent : ℕ → ℕ) (i : ℕ) → IsFactorRow parent i row.holds → (counts marks : ℕ → ℕ) → ((x : ℕ) → (counts x ≡ row.before x) × (marks x < i))
-    → (counts' marks' : ℕ → ℕ) → counts' i ≡ counts i + 1 → ((x : ℕ) → x ≢ i → counts' x ≡ counts x) → marks' i ≡ i → ((x : ℕ) → x ≢ i → marks' x ≡ marks x)
+pub row_start : (row : Row) (parent : ℕ → ℕ) (i : ℕ) → IsFactorRow parent i row.holds
+    → (counts marks : ℕ → ℕ) → ((x : ℕ) → (counts x ≡ row.before x) × (marks x < i))
+    → (counts' marks' : ℕ → ℕ) → counts' i ≡ counts i + 1 → ((x : ℕ) → x ≢ i → counts' x ≡ counts x)
+    → marks' i ≡ i → ((x : ℕ) → x ≢ i → marks' x ≡ marks x)
     → IsMarked row parent i i counts' marks'
 row_start row parent i is counts marks fresh counts' marks' hc oc hm om = record {
   count = λ x. elim (cases_eq x i) [

@@ -1,5 +1,6 @@
 -- Subtrees as spans: first descendants, the parents as ancestors, and the rows of the factor.
-use Rattle.std.proofs.Common.{sym, ◌∙◌, subst, ap, ◌≡◌, ◌≢◌, inl, inr, refl, ℕ, zero, suc, ◌+◌, ◌<◌, ◌≤◌, Bool, IsTrue, List, length, set, arith, slice_index}
+use Rattle.std.proofs.Common.{sym, ◌∙◌, subst, ap, ◌≡◌, ◌≢◌, inl, inr, refl, ℕ, zero, suc, ◌+◌}
+use Rattle.std.proofs.Common.{◌<◌, ◌≤◌, Bool, IsTrue, List, length, set, arith, slice_index}
 use Rattle.std.proofs.lemmas.Bool.{cases_eq, cases_lt, or_left, eq-eqb}
 use Rattle.std.proofs.lemmas.List.{get_or_past}
 use Rattle.ordering.specs.Fill.{structure_of}
@@ -22,16 +23,20 @@ module _ (parents : List ℕ) (forest : IsForest parents) where
   pub carried_none : (firsts : List ℕ) → ((x : ℕ) → x ≤ length parents → slice_index firsts x ≡ x) → AreCarried parents firsts 1
   carried_none firsts own = record {
     low = λ x le. subst (λ y. IsAbove parents y x) (sym (own x le)) self;
-    carried = λ c lt some. (let e : c ≡ 0 = omega arith in absurd (let none : parent_at parents c ≡ 0 = ap (parent_at parents) e in omega arith));
+    carried = λ c lt some.
+        (let e : c ≡ 0 = omega arith in absurd (let none : parent_at parents c ≡ 0 = ap (parent_at parents) e in omega arith));
   }
 
   module _ (firsts : List ℕ) (j : ℕ) (low_j : 0 < j) (high_j : j ≤ length parents) (old : AreCarried parents firsts j) where
     -- the first of the column is less than that of the parent: it is carried up
-    carried_up_to : length firsts ≡ length parents + 1 → slice_index firsts j < slice_index firsts (parent_at parents j) → AreCarried parents (set firsts (parent_at parents j) (slice_index firsts j)) (j + 1)
+    carried_up_to : length firsts ≡ length parents + 1 → slice_index firsts j < slice_index firsts (parent_at parents j)
+        → AreCarried parents (set firsts (parent_at parents j) (slice_index firsts j)) (j + 1)
     carried_up_to len less =
         let p = parent_at parents j in
         let some : 0 < p = elim (cases_eq p 0) [
-          | inl e ↦ (let le = above_le forest (old.low 0 (omega arith)) in let z : slice_index firsts p ≡ slice_index firsts 0 = ap (slice_index firsts) e in omega arith)
+          | inl e ↦
+              (let le = above_le forest (old.low 0 (omega arith)) in
+              let z : slice_index firsts p ≡ slice_index firsts 0 = ap (slice_index firsts) e in omega arith)
           | inr ne ↦ omega arith
         ] in
         let up = forest.rising j some in
@@ -39,7 +44,8 @@ module _ (parents : List ℕ) (forest : IsForest parents) where
         let other = at_other firsts p (slice_index firsts j) in
         record {
           low = λ x le. elim (cases_eq x p) [
-            | inl e ↦ subst (λ v. IsAbove parents (slice_index (set firsts p (slice_index firsts j)) v) v) (sym e) (subst (λ v. IsAbove parents v p) (sym here) (above_on (old.low j high_j) some))
+            | inl e ↦ subst (λ v. IsAbove parents (slice_index (set firsts p (slice_index firsts j)) v) v)
+                (sym e) (subst (λ v. IsAbove parents v p) (sym here) (above_on (old.low j high_j) some))
             | inr ne ↦ subst (λ v. IsAbove parents v x) (sym (other x ne)) (old.low x le)
           ];
           carried = λ c lt pos.
@@ -50,7 +56,8 @@ module _ (parents : List ℕ) (forest : IsForest parents) where
               elim (cases_eq c j) [
                 | inl e ↦ (
                     let q : parent_at parents c ≡ p = ap (parent_at parents) e in
-                    let l : slice_index (set firsts p (slice_index firsts j)) (parent_at parents c) ≡ slice_index firsts j = ap (slice_index (set firsts p (slice_index firsts j))) q ∙ here in
+                    let l : slice_index (set firsts p (slice_index firsts j)) (parent_at parents c) ≡ slice_index firsts j =
+                    ap (slice_index (set firsts p (slice_index firsts j))) q ∙ here in
                     let r : slice_index firsts c ≡ slice_index firsts j = ap (slice_index firsts) e in
                     omega arith
                     )
@@ -58,7 +65,8 @@ module _ (parents : List ℕ) (forest : IsForest parents) where
                     let was = old.carried c (omega arith) pos in
                     elim (cases_eq (parent_at parents c) p) [
                       | inl q ↦ (
-                          let l : slice_index (set firsts p (slice_index firsts j)) (parent_at parents c) ≡ slice_index firsts j = ap (slice_index (set firsts p (slice_index firsts j))) q ∙ here in
+                          let l : slice_index (set firsts p (slice_index firsts j)) (parent_at parents c) ≡ slice_index firsts j =
+                          ap (slice_index (set firsts p (slice_index firsts j))) q ∙ here in
                           let r : slice_index firsts (parent_at parents c) ≡ slice_index firsts p = ap (slice_index firsts) q in
                           omega arith
                           )
@@ -68,20 +76,23 @@ module _ (parents : List ℕ) (forest : IsForest parents) where
               ];
         }
 
-    pub carried_up : (p v : ℕ) → p ≡ parent_at parents j → v ≡ slice_index firsts j → length firsts ≡ length parents + 1 → v < slice_index firsts p → AreCarried parents (set firsts p v) (j + 1)
+    pub carried_up : (p v : ℕ) → p ≡ parent_at parents j → v ≡ slice_index firsts j
+        → length firsts ≡ length parents + 1 → v < slice_index firsts p → AreCarried parents (set firsts p v) (j + 1)
     carried_up p v e f len = rw (e, f) (carried_up_to len)
 
     pub carried_on : (p : ℕ) → p ≡ parent_at parents j → slice_index firsts p ≤ slice_index firsts j → AreCarried parents firsts (j + 1)
     carried_on p is not = record {
       low = old.low;
       carried = λ c lt pos. elim (cases_eq c j) [
-        | inl e ↦ subst (λ v. slice_index firsts (parent_at parents v) ≤ slice_index firsts v) (sym e) (subst (λ q. slice_index firsts q ≤ slice_index firsts j) is not)
+        | inl e ↦ subst (λ v. slice_index firsts (parent_at parents v) ≤ slice_index firsts v)
+            (sym e) (subst (λ q. slice_index firsts q ≤ slice_index firsts j) is not)
         | inr ne ↦ old.carried c (omega arith) pos
       ];
     }
 
   module _ (firsts : List ℕ) (all : AreCarried parents firsts (length parents + 1)) where
-    below_first : {y x : ℕ} → IsAbove parents y x → x ≤ length parents → (slice_index firsts x ≤ slice_index firsts y) × (y ≤ length parents)
+    below_first : {y x : ℕ} → IsAbove parents y x → x ≤ length parents
+        → (slice_index firsts x ≤ slice_index firsts y) × (y ≤ length parents)
     below_first self le = (omega arith, le)
     below_first {y} {x} (step some way) le =
         let up = forest.rising y some in
@@ -106,7 +117,8 @@ module _ (parents : List ℕ) (forest : IsForest parents) where
 pub parent_low : (parents : List ℕ) → IsForest parents → (x : ℕ) → parent_at parents x ≤ length parents
 parent_low parents forest x = elim (cases_eq (parent_at parents x) 0) [ inl e ↦ omega arith | inr ne ↦ (forest.rising x (omega arith)).1 ]
 
-module _ (parents : List ℕ) (forest : IsForest parents) (firsts : List ℕ) (len : length firsts ≡ length parents + 1) (is : IsFirsts parents firsts) where
+module _ (parents : List ℕ) (forest : IsForest parents) (firsts : List ℕ)
+    (len : length firsts ≡ length parents + 1) (is : IsFirsts parents firsts) where
   past : (x : ℕ) → length parents < x → slice_index firsts x ≡ 0
   past x lt = get_or_past firsts x 0 (omega arith)
 
@@ -138,7 +150,8 @@ module _ (parents : List ℕ) (forest : IsForest parents) (firsts : List ℕ) (l
   ]
 
   -- the parents themselves are ancestors that lead up
-  pub first_ancestors : (ancestor : ℕ → ℕ) → ((x : ℕ) → x ≤ length parents → ancestor x ≡ parent_at parents x) → ((x : ℕ) → length parents < x → ancestor x ≡ 0) → (j : ℕ) → AreAncestors (slice_index firsts) (length firsts) j ancestor
+  pub first_ancestors : (ancestor : ℕ → ℕ) → ((x : ℕ) → x ≤ length parents → ancestor x ≡ parent_at parents x)
+      → ((x : ℕ) → length parents < x → ancestor x ≡ 0) → (j : ℕ) → AreAncestors (slice_index firsts) (length firsts) j ancestor
   first_ancestors ancestor here none j = record {
     rises = λ z some. elim (cases_lt (length parents) z) [
       | inl l ↦ (let e = none z l in absurd (omega arith))
@@ -164,7 +177,8 @@ module _ (parents : List ℕ) (forest : IsForest parents) (firsts : List ℕ) (l
 -- ---- rows
 
 -- the way up from a column of row i comes to i
-leads_to : (parents : List ℕ) (i : ℕ) (holds : ℕ → Bool) → IsFactorRow (parent_at parents) i holds → (room x : ℕ) → i ≤ x + room → IsTrue (holds x) → (x ≡ i → ⊥) → x ≤ i → IsAbove parents x i
+leads_to : (parents : List ℕ) (i : ℕ) (holds : ℕ → Bool) → IsFactorRow (parent_at parents) i holds
+    → (room x : ℕ) → i ≤ x + room → IsTrue (holds x) → (x ≡ i → ⊥) → x ≤ i → IsAbove parents x i
 leads_to parents i holds row zero x le h ne most = absurd (omega arith)
 leads_to parents i holds row (suc room) x le h ne most =
     let up = row.up x h ne in
@@ -175,7 +189,8 @@ leads_to parents i holds row (suc room) x le h ne most =
       | inr other ↦ step some (leads_to parents i holds row room (parent_at parents x) (omega arith) up.3 other up.2)
     ]
 
-module _ (joined : ℕ → ℕ → Bool) (n : ℕ) (parents : List ℕ) (factor : IsFactor joined n parents) (firsts : List ℕ) (len : length firsts ≡ n + 1) (is : IsFirsts parents firsts) where
+module _ (joined : ℕ → ℕ → Bool) (n : ℕ) (parents : List ℕ) (factor : IsFactor joined n parents)
+    (firsts : List ℕ) (len : length firsts ≡ n + 1) (is : IsFirsts parents firsts) where
   same : length parents ≡ n
   same = long_parents joined n parents factor
 
@@ -189,7 +204,8 @@ module _ (joined : ℕ → ℕ → Bool) (n : ℕ) (parents : List ℕ) (factor 
             let row = factor_row joined n parents factor i (omega arith) in
             let holds = of_way joined n parents factor y i y h.1 h.0 h.1 self in
             let below = h.1 in
-            ((is i y (omega arith)).0 (leads_to parents i (λ x. structure_of joined x i) row i y (omega arith) holds (λ e. absurd (omega arith)) (omega arith))).0
+            ((is i y (omega arith)).0 (leads_to parents i (λ x. structure_of joined x i) row i y
+            (omega arith) holds (λ e. absurd (omega arith)) (omega arith))).0
             )
       ]
 
@@ -205,7 +221,8 @@ module _ (joined : ℕ → ℕ → Bool) (n : ℕ) (parents : List ℕ) (factor 
         ]
       ]
 
-  pub row_to : (i x : ℕ) → x ≤ n → x ≤ i → IsTrue (structure_of joined x i) → (y : ℕ) × (slice_index firsts x ≤ y) × (y ≤ x) × IsInRow joined i y
+  pub row_to : (i x : ℕ) → x ≤ n → x ≤ i → IsTrue (structure_of joined x i)
+      → (y : ℕ) × (slice_index firsts x ≤ y) × (y ≤ x) × IsInRow joined i y
   row_to i x xn le h =
       let long = same in
       elim (cases_eq x i) [

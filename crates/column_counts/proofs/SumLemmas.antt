@@ -1,5 +1,6 @@
 -- Tests and sums over a span.
-use Rattle.std.proofs.Common.{sym, ◌∙◌, subst, ap, ◌+◌, ◌*◌, ◌≡◌, ◌≢◌, ◌⊎◌, inl, inr, ℕ, zero, suc, ◌<◌, ◌≤◌, Bool, true, false, arith, refl, List, [], ◌∷◌, ◌++◌, get_or, length, set, slice_index, ◌-◌, length-set}
+use Rattle.std.proofs.Common.{sym, ◌∙◌, subst, ap, ◌+◌, ◌*◌, ◌≡◌, ◌≢◌, ◌⊎◌, inl, inr, ℕ, zero, suc, ◌<◌, ◌≤◌, Bool, true}
+use Rattle.std.proofs.Common.{false, arith, refl, List, [], ◌∷◌, ◌++◌, get_or, length, set, slice_index, ◌-◌, length-set}
 use Rattle.std.specs.List.{range_with_len, sum_by, count_by}
 use Rattle.std.proofs.Math.Nat.{mul-suc}
 use Rattle.std.proofs.lemmas.Bool.{cases_eq, cases_lt, false_from_ne_true}
@@ -12,7 +13,8 @@ use Rattle.lists.proofs.Lists.{at_other, at_here}
 
 pub range_more : (a m : ℕ) → range_with_len a (suc m) ≡ range_with_len a m ++ (a + m) ∷ []
 range_more a zero = ap (λ (x : ℕ). x ∷ []) (omega arith)
-range_more a (suc m) = ap (λ (xs : List ℕ). a ∷ xs) (range_more (a + 1) m ∙ ap (λ (x : ℕ). range_with_len (a + 1) m ++ x ∷ []) (omega arith))
+range_more a (suc m) =
+    ap (λ (xs : List ℕ). a ∷ xs) (range_more (a + 1) m ∙ ap (λ (x : ℕ). range_with_len (a + 1) m ++ x ∷ []) (omega arith))
 
 pub any_from : (p : ℕ → Bool) (a n y : ℕ) → a ≤ y → y < n → p y ≡ true → any_in p a n ≡ true
 unfolding any_in
@@ -35,7 +37,8 @@ unfolding sum_in
 sum_in_at h a n le =
     let more : suc n - a ≡ suc (n - a) = omega arith in
     let last : h (a + (n - a)) ≡ h n = ap h (omega arith) in
-    let sum : sum_by h (range_with_len a (n - a) ++ (a + (n - a)) ∷ []) ≡ sum_in h a n + h (a + (n - a)) = sum_by_push h (range_with_len a (n - a)) (a + (n - a)) in
+    let sum : sum_by h (range_with_len a (n - a) ++ (a + (n - a)) ∷ []) ≡ sum_in h a n + h (a + (n - a)) =
+    sum_by_push h (range_with_len a (n - a)) (a + (n - a)) in
     ap (λ (m : ℕ). sum_by h (range_with_len a m)) more ∙ ap (sum_by h) (range_more a (n - a)) ∙ omega arith
 
 pub sum_in_below : (h : ℕ → ℕ) (a n : ℕ) → n < a → sum_in h a (suc n) ≡ sum_in h a n
@@ -59,7 +62,8 @@ sum_in_out h h' c a (suc n) same out =
           let l = sum_in_at h' a n le in let r = sum_in_at h a n le in omega arith
     ]
 
-pub sum_in_more : (h h' : ℕ → ℕ) (c a n : ℕ) → ((d : ℕ) → d ≢ c → h' d ≡ h d) → h' c ≡ h c + 1 → a ≤ c → c < n → sum_in h' a n ≡ sum_in h a n + 1
+pub sum_in_more : (h h' : ℕ → ℕ) (c a n : ℕ) → ((d : ℕ) → d ≢ c → h' d ≡ h d)
+    → h' c ≡ h c + 1 → a ≤ c → c < n → sum_in h' a n ≡ sum_in h a n + 1
 sum_in_more h h' c a zero same here le lt = absurd (omega arith)
 sum_in_more h h' c a (suc n) same here le lt =
     elim (cases_eq n c) [
@@ -81,13 +85,18 @@ unfolding passing sum_in
 passing_sum p n = let all : n ≡ n - 0 = omega arith in ap (λ (m : ℕ). count_by p (range_with_len 0 m)) all
 
 pub passing_next : (p : ℕ → Bool) (n : ℕ) → passing p (suc n) ≡ bit (p n) + passing p n
-passing_next p n = let all = passing_sum p (suc n) in let at = sum_in_at (λ i. bit (p i)) 0 n (omega arith) in let rest = passing_sum p n in omega arith
+passing_next p n = let all = passing_sum p (suc n) in
+    let at = sum_in_at (λ i. bit (p i)) 0 n (omega arith) in
+    let rest = passing_sum p n in
+    omega arith
 
 pub passing_same : (p q : ℕ → Bool) (n : ℕ) → ((i : ℕ) → p i ≡ q i) → passing p n ≡ passing q n
 passing_same p q n same =
-    passing_sum p n ∙ sum_in_out (λ i. bit (q i)) (λ i. bit (p i)) n 0 n (λ i ne. ap bit (same i)) (inr (omega arith)) ∙ sym (passing_sum q n)
+    passing_sum p n ∙ sum_in_out (λ i. bit (q i)) (λ i. bit (p i)) n 0 n (λ i ne. ap bit (same i)) (inr (omega arith))
+    ∙ sym (passing_sum q n)
 
-pub passing_more : (p q : ℕ → Bool) (i n : ℕ) → i < n → p i ≡ false → q i ≡ true → ((k : ℕ) → k ≢ i → q k ≡ p k) → passing q n ≡ passing p n + 1
+pub passing_more : (p q : ℕ → Bool) (i n : ℕ) → i < n → p i ≡ false
+    → q i ≡ true → ((k : ℕ) → k ≢ i → q k ≡ p k) → passing q n ≡ passing p n + 1
 passing_more p q i n lt hp hq same =
     let was : bit (p i) ≡ 0 = ap bit hp in
     let now : bit (q i) ≡ 1 = ap bit hq in
@@ -103,20 +112,28 @@ sum_in_past h a (suc n) le = sum_in_below h a n (omega arith) ∙ sum_in_past h 
 
 -- a sum in two parts
 pub sum_in_split : (h : ℕ → ℕ) (a m : ℕ) → a ≤ m → sum_in h 0 m ≡ sum_in h 0 a + sum_in h a m
-sum_in_split h a zero le = let e : a ≡ 0 = omega arith in let z = sum_in_zero h 0 in let y = sum_in_zero h a in subst (λ b. sum_in h 0 zero ≡ sum_in h 0 b + sum_in h a zero) (sym e) (omega arith)
+sum_in_split h a zero le = let e : a ≡ 0 = omega arith in
+    let z = sum_in_zero h 0 in
+    let y = sum_in_zero h a in
+    subst (λ b. sum_in h 0 zero ≡ sum_in h 0 b + sum_in h a zero) (sym e) (omega arith)
 sum_in_split h a (suc m) le =
     let all = sum_in_at h 0 m (omega arith) in
     elim (cases_lt m a) [
       | inl last ↦ (
           let e : a ≡ suc m = omega arith in
-          subst (λ b. sum_in h 0 (suc m) ≡ sum_in h 0 b + sum_in h b (suc m)) (sym e) (let z = sum_in_past h (suc m) (suc m) (omega arith) in omega arith)
+          subst (λ b. sum_in h 0 (suc m) ≡ sum_in h 0 b + sum_in h b (suc m)) (sym e)
+          (let z = sum_in_past h (suc m) (suc m) (omega arith) in omega arith)
           )
       | inr more ↦ (let part = sum_in_at h a m more in let ih = sum_in_split h a m more in omega arith)
     ]
 
 pub sum_in_bound : (h : ℕ → ℕ) (b n : ℕ) → ((x : ℕ) → h x ≤ b) → sum_in h 0 n ≤ b * n
 sum_in_bound h b zero most = let z = sum_in_zero h 0 in omega arith
-sum_in_bound h b (suc n) most = let e = sum_in_at h 0 n (omega arith) in let ih = sum_in_bound h b n most in let m = most n in let d : b * suc n ≡ b * n + b = mul-suc b n in omega arith
+sum_in_bound h b (suc n) most = let e = sum_in_at h 0 n (omega arith) in
+    let ih = sum_in_bound h b n most in
+    let m = most n in
+    let d : b * suc n ≡ b * n + b = mul-suc b n in
+    omega arith
 
 pub sum_in_none : (h : ℕ → ℕ) (a n : ℕ) → ((x : ℕ) → h x ≡ 0) → sum_in h a n ≡ 0
 sum_in_none h a zero none = sum_in_zero h a
@@ -161,7 +178,8 @@ none_summed table = record {
 pub sum_before : (x : ℕ) (old now : List ℕ) → 0 < x → AreSummedTo x old now → slice_index now (x - 1) ≡ sum_in (slice_index old) 0 x
 sum_before x old now some are = let e : suc (x - 1) ≡ x = omega arith in are.done (x - 1) (omega arith) ∙ ap (sum_in (slice_index old) 0) e
 
-pub summed_fits : (x bound : ℕ) (old now : List ℕ) → 0 < x → AreSummedTo x old now → ((y : ℕ) → slice_index old y ≤ bound) → slice_index now x + slice_index now (x - 1) ≤ bound * x + bound
+pub summed_fits : (x bound : ℕ) (old now : List ℕ) → 0 < x → AreSummedTo x old now
+    → ((y : ℕ) → slice_index old y ≤ bound) → slice_index now x + slice_index now (x - 1) ≤ bound * x + bound
 summed_fits x bound old now some are small =
     let before = sum_before x old now some are in
     let most = sum_in_bound (slice_index old) bound x small in
@@ -169,7 +187,8 @@ summed_fits x bound old now some are small =
     let one = small x in
     omega arith
 
-pub summed_more : (x : ℕ) (old now : List ℕ) → 0 < x → x < length now → AreSummedTo x old now → AreSummedTo (x + 1) old (set now x (slice_index now x + slice_index now (x - 1)))
+pub summed_more : (x : ℕ) (old now : List ℕ) → 0 < x → x < length now → AreSummedTo x old now
+    → AreSummedTo (x + 1) old (set now x (slice_index now x + slice_index now (x - 1)))
 summed_more x old now some lt are =
     let sum = slice_index now x + slice_index now (x - 1) in
     let before = sum_before x old now some are in

@@ -22,12 +22,14 @@ other_vertex order place_back v some x ne e =
     ]
 
 -- a vertex has a place that is no more than the length
-pub place_within : (order : List ℕ) → ((k : ℕ) → k ≤ length order → place_of order (vertex_at order k) ≡ k) → (v : ℕ) → vertex_at order (place_of order v) ≡ v
+pub place_within : (order : List ℕ) → ((k : ℕ) → k ≤ length order → place_of order (vertex_at order k) ≡ k)
+    → (v : ℕ) → vertex_at order (place_of order v) ≡ v
     → place_of order v ≤ length order
 place_within order place_back v back =
     elim (cases_lt (length order) (place_of order v)) [
       | inl past ↦ (
-          let none : place_of order v ≡ 0 = ap (place_of order) (sym back ∙ past_end order (place_of order v) past) ∙ place_back 0 (omega arith) in
+          let none : place_of order v ≡ 0 =
+          ap (place_of order) (sym back ∙ past_end order (place_of order v) past) ∙ place_back 0 (omega arith) in
           absurd (omega arith)
           )
       | inr le ↦ le

@@ -1,8 +1,10 @@
 -- The words of a subcommand: clap's walk over them passes, and ends with the rows of the options that they give.
-use Rattle.std.proofs.Common.{◌≡◌, ◌∙◌, Bool, true, false, not, ◌||◌, cond, List, [], ◌∷◌, ◌++◌, map, Option, Some, None, option_map, refl, sym, ap, subst, fold, append_assoc, append-nil, inl, inr}
+use Rattle.std.proofs.Common.{◌≡◌, ◌∙◌, Bool, true, false, not, ◌||◌, cond, List, [], ◌∷◌, ◌++◌, map, Option, Some}
+use Rattle.std.proofs.Common.{None, option_map, refl, sym, ap, subst, fold, append_assoc, append-nil, inl, inr}
 use Rattle.std.specs.List.{list_all}
 use Rattle.std.proofs.lemmas.Bool.{cases_Bool, and_parts}
-use Rattle.clap.specs.Walk.{Held, Row, Rule, Walk, walked, walk_from, has_row, settled, reacted, finished, with_default, nothing_held, rows_after}
+use Rattle.clap.specs.Walk.{Held, Row, Rule, Walk, walked, walk_from, has_row, settled}
+use Rattle.clap.specs.Walk.{reacted, finished, with_default, nothing_held, rows_after}
 use Rattle.clap.specs.Takes.{walk_passes, turn_passes, settle_passes, level_passes, default_passes, is_given}
 use Rattle.command_line.specs.Words.{Text, Given, Shape, is_value, are_among, are_distinct}
 use Rattle.command_line.specs.Forms.{options_in, given_as, option_in, with_value, with_words, first_option, with_rest, is_among}
@@ -10,7 +12,8 @@ use Rattle.command_line.specs.Table.{row_for}
 use Rattle.command_line.proofs.FormLemmas.{options_first}
 use Rattle.command_line.proofs.RowLemmas.{by_long, by_id, not_before, rows_gives}
 use Rattle.command_line.proofs.TableLemmas.{built_rule, built_leaf}
-use Rattle.command_line.proofs.WordLemmas.{waiting_walk, pending_value, step_whole, step_name, step_value, Ready, rules_of, pass_whole, pass_name, pass_value, ready_whole, ready_value}
+use Rattle.command_line.proofs.WordLemmas.{waiting_walk, pending_value, step_whole, step_name, step_value, Ready}
+use Rattle.command_line.proofs.WordLemmas.{rules_of, pass_whole, pass_name, pass_value, ready_whole, ready_value}
 
 -- a walk over words passes, and ends with the rows of these options
 abbrev Ends : Shape → List Given → Walk → List Text → Type 0

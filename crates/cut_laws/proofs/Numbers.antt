@@ -1,5 +1,6 @@
 -- Names and numbers of tasks: ways that tell names are ways that tell numbers, with the names of these.
-use Rattle.std.proofs.Common.{◌≡◌, ◌==◌, ℕ, zero, suc, ◌+◌, ◌-◌, ◌<◌, ◌≤◌, inl, inr, max, refl, sym, subst, ap, arith, ◌∙◌, false, List, [], ◌∷◌, ◌++◌, length, length-append, map}
+use Rattle.std.proofs.Common.{◌≡◌, ◌==◌, ℕ, zero, suc, ◌+◌, ◌-◌, ◌<◌, ◌≤◌, inl, inr, max, refl, sym, subst}
+use Rattle.std.proofs.Common.{ap, arith, ◌∙◌, false, List, [], ◌∷◌, ◌++◌, length, length-append, map}
 use Rattle.std.specs.Prelude.{slice_index_or}
 use Rattle.std.proofs.lemmas.List.{map-append, get_or_append_left, get_or-append-add}
 use Rattle.mp_system.specs.Renaming.{name_in}
@@ -26,7 +27,8 @@ abbrev mutual
 -- ---- runs
 
 mutual
-  numbered_run : (f : ℕ → ℕ) (d : Direction) (base : ℕ) (t : Term) (s : State t) (v r : ℕ) (s' : State t) → NamedRun d t (shape f base t) s v r s' → (k : ℕ) × NumberedRun d base t s k r s' × (f k ≡ v)
+  numbered_run : (f : ℕ → ℕ) (d : Direction) (base : ℕ) (t : Term) (s : State t) (v r : ℕ) (s' : State t)
+      → NamedRun d t (shape f base t) s v r s' → (k : ℕ) × NumberedRun d base t s k r s' × (f k ≡ v)
   numbered_run f d base (hold size) s v r s' h = absurd h
   numbered_run f d base (series a w b) (inl s) v r (inl s') h = numbered_run f d base a s v r s' h
   numbered_run f forward base (series a w b) (inl s) v r (inr s') h = (own_number base a b, (h.0, h.1, h.2, refl), sym h.3)
@@ -36,7 +38,8 @@ mutual
   numbered_run f d base (series a w b) (inr s) v r (inr s') h = numbered_run f d (base + task_count a) b s v r s' h
   numbered_run f d base (par ts) s v r s' h = numbered_runs f d base ts s v r s' h
 
-  numbered_runs : (f : ℕ → ℕ) (d : Direction) (base : ℕ) (ts : Parts) (s : States ts) (v r : ℕ) (s' : States ts) → NamedRuns d ts (shapes f base ts) s v r s' → (k : ℕ) × NumberedRuns d base ts s k r s' × (f k ≡ v)
+  numbered_runs : (f : ℕ → ℕ) (d : Direction) (base : ℕ) (ts : Parts) (s : States ts) (v r : ℕ) (s' : States ts)
+      → NamedRuns d ts (shapes f base ts) s v r s' → (k : ℕ) × NumberedRuns d base ts s k r s' × (f k ≡ v)
   numbered_runs f d base no_parts s v r s' h = absurd h
   numbered_runs f d base (part t ts) (s, ss) v r (s', ss') (inl (e, (q, h, m))) =
       let (k, run, is) = numbered_run f d base t s v q s' h in (k, inl (e, (q, run, m)), is)
@@ -44,7 +47,8 @@ mutual
       let (k, run, is) = numbered_runs f d (base + task_count t) ts ss v q ss' h in (k, inr (e, (q, run, m)), is)
 
 mutual
-  named_run : (f : ℕ → ℕ) (d : Direction) (base : ℕ) (t : Term) (s : State t) (k r : ℕ) (s' : State t) → NumberedRun d base t s k r s' → NamedRun d t (shape f base t) s (f k) r s'
+  named_run : (f : ℕ → ℕ) (d : Direction) (base : ℕ) (t : Term) (s : State t) (k r : ℕ) (s' : State t)
+      → NumberedRun d base t s k r s' → NamedRun d t (shape f base t) s (f k) r s'
   named_run f d base (hold size) s k r s' h = absurd h
   named_run f d base (series a w b) (inl s) k r (inl s') h = named_run f d base a s k r s' h
   named_run f forward base (series a w b) (inl s) k r (inr s') h = (h.0, h.1, h.2, ap f h.3)
@@ -54,36 +58,43 @@ mutual
   named_run f d base (series a w b) (inr s) k r (inr s') h = named_run f d (base + task_count a) b s k r s' h
   named_run f d base (par ts) s k r s' h = named_runs f d base ts s k r s' h
 
-  named_runs : (f : ℕ → ℕ) (d : Direction) (base : ℕ) (ts : Parts) (s : States ts) (k r : ℕ) (s' : States ts) → NumberedRuns d base ts s k r s' → NamedRuns d ts (shapes f base ts) s (f k) r s'
+  named_runs : (f : ℕ → ℕ) (d : Direction) (base : ℕ) (ts : Parts) (s : States ts) (k r : ℕ) (s' : States ts)
+      → NumberedRuns d base ts s k r s' → NamedRuns d ts (shapes f base ts) s (f k) r s'
   named_runs f d base no_parts s k r s' h = absurd h
   named_runs f d base (part t ts) (s, ss) k r (s', ss') (inl (e, (q, h, m))) = inl (e, (q, named_run f d base t s k q s' h, m))
-  named_runs f d base (part t ts) (s, ss) k r (s', ss') (inr (e, (q, h, m))) = inr (e, (q, named_runs f d (base + task_count t) ts ss k q ss' h, m))
+  named_runs f d base (part t ts) (s, ss) k r (s', ss') (inr (e, (q, h, m))) =
+      inr (e, (q, named_runs f d (base + task_count t) ts ss k q ss' h, m))
 
 -- ---- ways
 
-pub numbered_way : (f : ℕ → ℕ) (d : Direction) (base : ℕ) (t : Term) {s s' : State t} {xs : List ℕ} {h : ℕ} → NamedWay d t (shape f base t) s xs h s' → (ks : List ℕ) × Way d base t s ks h s' × (map f ks ≡ xs)
+pub numbered_way : (f : ℕ → ℕ) (d : Direction) (base : ℕ) (t : Term) {s s' : State t} {xs : List ℕ} {h : ℕ}
+    → NamedWay d t (shape f base t) s xs h s' → (ks : List ℕ) × Way d base t s ks h s' × (map f ks ≡ xs)
 numbered_way f d base t (named.still s) = ([], still s, refl)
 numbered_way f d base t (named.onward {s' = s'} {s'' = s''} {xs = xs} v r w step) =
     let (ks, way, is) = numbered_way f d base t w in
     let (k, run, own) = numbered_run f d base t s' v r s'' step in
     (ks ++ k ∷ [], onward k r way run, map-append f ks (k ∷ []) ∙ ap (λ l. l ++ f k ∷ []) is ∙ ap (λ n. xs ++ n ∷ []) own)
 
-pub named_way : (f : ℕ → ℕ) (d : Direction) (base : ℕ) (t : Term) {s s' : State t} {ks : List ℕ} {h : ℕ} → Way d base t s ks h s' → NamedWay d t (shape f base t) s (map f ks) h s'
+pub named_way : (f : ℕ → ℕ) (d : Direction) (base : ℕ) (t : Term) {s s' : State t} {ks : List ℕ} {h : ℕ}
+    → Way d base t s ks h s' → NamedWay d t (shape f base t) s (map f ks) h s'
 named_way f d base t (still s) = named.still s
 named_way f d base t (onward {s = s} {s' = s'} {s'' = s''} {xs = ks} {h = h} k r w run) =
-    subst (λ l. NamedWay d t (shape f base t) s l (max h (max r (memory_of t s''))) s'') (sym (map-append f ks (k ∷ []))) (named.onward (f k) r (named_way f d base t w) (named_run f d base t s' k r s'' run))
+    subst (λ l. NamedWay d t (shape f base t) s l (max h (max r (memory_of t s''))) s'') (sym (map-append f ks (k ∷ [])))
+    (named.onward (f k) r (named_way f d base t w) (named_run f d base t s' k r s'' run))
 
 -- ---- the names as a list
 
 mutual
   pub count_names : (t : Term) (n : Names t) → length (names_of t n) ≡ task_count t
   count_names (hold size) n = refl
-  count_names (series a w b) (na, x, nb) = length-append (names_of a na) (names_of b nb ++ x ∷ []) ∙ omega (arith, length-append (names_of b nb) (x ∷ []), count_names a na, count_names b nb)
+  count_names (series a w b) (na, x, nb) = length-append (names_of a na) (names_of b nb ++ x ∷ [])
+      ∙ omega (arith, length-append (names_of b nb) (x ∷ []), count_names a na, count_names b nb)
   count_names (par ts) ns = count_names_of_parts ts ns
 
   count_names_of_parts : (ts : Parts) (ns : NamesOfParts ts) → length (names_of_parts ts ns) ≡ task_count_of_parts ts
   count_names_of_parts no_parts ns = refl
-  count_names_of_parts (part t ts) (n, ns) = length-append (names_of t n) (names_of_parts ts ns) ∙ omega (arith, count_names t n, count_names_of_parts ts ns)
+  count_names_of_parts (part t ts) (n, ns) =
+      length-append (names_of t n) (names_of_parts ts ns) ∙ omega (arith, count_names t n, count_names_of_parts ts ns)
 
 -- the k-th name, where the first one is that of the number `base`
 abbrev pub looked_up : List ℕ → ℕ → ℕ → ℕ
@@ -107,7 +118,8 @@ gives_right f xs ys base count e g k low high =
     let i : k - base ≡ length xs + (k - (base + count)) = omega arith in
     g k (omega arith) (omega (arith, length-append xs ys)) ∙ ap (λ j. slice_index_or (xs ++ ys) j 0) i ∙ at_right xs ys (k - (base + count))
 
-pair_same : (a : Term) (w : Task) (b : Term) (na ma : Names a) (x y : ℕ) (nb mb : Names b) → na ≡ ma → x ≡ y → nb ≡ mb → ◌≡◌ {A = Names (series a w b)} (na, x, nb) (ma, y, mb)
+pair_same : (a : Term) (w : Task) (b : Term) (na ma : Names a) (x y : ℕ) (nb mb : Names b)
+    → na ≡ ma → x ≡ y → nb ≡ mb → ◌≡◌ {A = Names (series a w b)} (na, x, nb) (ma, y, mb)
 pair_same a w b na ma x y nb mb p q r = λ i. (p i, q i, r i)
 
 mutual
@@ -120,17 +132,20 @@ mutual
       let last = gives_right f (names_of b nb) (x ∷ []) (base + task_count a) (task_count b) cb rest in
       let own : base + task_count a + task_count b ≡ own_number base a b = omega arith in
       let zeroth : own_number base a b - (base + task_count a + task_count b) ≡ 0 = omega arith in
-      let is : f (own_number base a b) ≡ x = last (own_number base a b) (omega arith) (omega arith) ∙ ap (λ j. slice_index_or (x ∷ []) j 0) zeroth in
+      let is : f (own_number base a b) ≡ x =
+      last (own_number base a b) (omega arith) (omega arith) ∙ ap (λ j. slice_index_or (x ∷ []) j 0) zeroth in
       pair_same a w b na (shape f base a) x (f (own_number base a b)) nb (shape f (base + task_count a) b)
       (shaped f base a na (gives_left f (names_of a na) (names_of b nb ++ x ∷ []) base g)) (sym is)
       (shaped f (base + task_count a) b nb (gives_left f (names_of b nb) (x ∷ []) (base + task_count a) rest))
   shaped f base (par ts) ns g = shaped_parts f base ts ns g
 
-  pub shaped_parts : (f : ℕ → ℕ) (base : ℕ) (ts : Parts) (ns : NamesOfParts ts) → Gives f (names_of_parts ts ns) base → ns ≡ shapes f base ts
+  pub shaped_parts : (f : ℕ → ℕ) (base : ℕ) (ts : Parts) (ns : NamesOfParts ts)
+      → Gives f (names_of_parts ts ns) base → ns ≡ shapes f base ts
   shaped_parts f base no_parts ns g = refl
   shaped_parts f base (part t ts) (n, ns) g =
       let p = shaped f base t n (gives_left f (names_of t n) (names_of_parts ts ns) base g) in
-      let q = shaped_parts f (base + task_count t) ts ns (gives_right f (names_of t n) (names_of_parts ts ns) base (task_count t) (count_names t n) g) in
+      let q = shaped_parts f (base + task_count t) ts ns
+      (gives_right f (names_of t n) (names_of_parts ts ns) base (task_count t) (count_names t n) g) in
       λ i. (p i, q i)
 
 name_given : (names : List ℕ) → Gives (name_in names) names 1
@@ -167,8 +182,11 @@ mutual
       let (yb, last, e', lb, ll) = split_at (task_count b) 1 rest lr in
       let (x, e'') = one_name last ll in
       let (na, ia) = names_from a ya la in
-      let (nb, ib) = names_from b yb lb in
-      ((na, x, nb), ap (λ l. l ++ (names_of b nb ++ x ∷ [])) ia ∙ ap (λ l. ya ++ (l ++ x ∷ [])) ib ∙ ap (λ l. ya ++ (yb ++ l)) (sym e'') ∙ ap (λ l. ya ++ l) (sym e') ∙ sym e)
+      let (nb, ib) = names_from b yb lb in (
+        (na, x, nb),
+        ap (λ l. l ++ (names_of b nb ++ x ∷ [])) ia ∙ ap (λ l. ya ++ (l ++ x ∷ [])) ib
+            ∙ ap (λ l. ya ++ (yb ++ l)) (sym e'') ∙ ap (λ l. ya ++ l) (sym e') ∙ sym e,
+      )
   names_from (par ts) xs h = names_from_parts ts xs h
 
   names_from_parts : (ts : Parts) (xs : List ℕ) → length xs ≡ task_count_of_parts ts → (n : NamesOfParts ts) × (names_of_parts ts n ≡ xs)

@@ -1,5 +1,6 @@
 -- Which claims on parts side by side a claim on the whole needs.
-use Rattle.std.proofs.Common.{◌≡◌, ℕ, ◌+◌, ◌-◌, ◌<◌, ◌≤◌, ◌⊎◌, inl, inr, refl, sym, subst, ap, arith, ◌∙◌, List, [], ◌∷◌, Option, Some, None}
+use Rattle.std.proofs.Common.{◌≡◌, ℕ, ◌+◌, ◌-◌, ◌<◌, ◌≤◌, ◌⊎◌, inl, inr, refl, sym, subst}
+use Rattle.std.proofs.Common.{ap, arith, ◌∙◌, List, [], ◌∷◌, Option, Some, None}
 use Rattle.std.specs.Prelude.{ℤ, pos, ◌-ℤ◌}
 use Rattle.std.specs.List.{sum_by}
 use Rattle.std.proofs.lemmas.Bool.Decides.{nat_tests}
@@ -25,13 +26,15 @@ pub record ParChoice (ts : Parts) (cs : List Cut) (k : Claim) (ks : List (Option
   pub wants : AllWant cs ks
   pub meets : MeetsPar (list_of_parts ts) ks k
 
-claim_yes : (d : Direction) (bound : ℤ) (c : Cut) (level : ℕ) → limit_from bound ≤ top_of d c → part_claim d bound c level ≡ Some (record { direction = d; bound = bound; rest = level })
+claim_yes : (d : Direction) (bound : ℤ) (c : Cut) (level : ℕ) → limit_from bound ≤ top_of d c
+    → part_claim d bound c level ≡ Some (record { direction = d; bound = bound; rest = level })
 claim_yes d bound c level h = grind (arith, nat_tests)
 
 claim_none : (d : Direction) (bound : ℤ) (c : Cut) (level : ℕ) → top_of d c < limit_from bound → part_claim d bound c level ≡ None
 claim_none d bound c level h = grind (arith, nat_tests)
 
-pub value_same : (d : Direction) (t : Term) (bound : ℤ) (rest : ℕ) → value_in d t (Some (record { direction = d; bound = bound; rest = rest })) ≡ rest
+pub value_same : (d : Direction) (t : Term) (bound : ℤ) (rest : ℕ)
+    → value_in d t (Some (record { direction = d; bound = bound; rest = rest })) ≡ rest
 value_same forward t bound rest = refl
 value_same backward t bound rest = refl
 
@@ -49,14 +52,16 @@ some_later : (c : Option Claim) (cs : List (Option Claim)) → SomeClaim cs → 
 some_later None cs h = h
 some_later (Some c) cs h = tt
 
-record AllChosen (d : Direction) (bound : ℤ) (total others : ℕ) (ts : Parts) (cs : List Cut) (ls : List ℕ) (ks : List (Option Claim)) : Type 0 where
+record AllChosen (d : Direction) (bound : ℤ) (total others : ℕ) (ts : Parts)
+    (cs : List Cut) (ls : List ℕ) (ks : List (Option Claim)) : Type 0 where
   wants : AllWant cs ks
   values : values_in d (list_of_parts ts) ks ≡ level_sum ls
   room : HaveRoom d bound total (list_of_parts ts) ks
   some : SomeClaim ks ⊎ EachPasses (limit_from bound) others (starts d cs) (sides d cs) ls
 
 module _ (laws : SideLaws) (d : Direction) (bound : ℤ) (total : ℕ) where
-  part_chosen : (t : Term) (c : Cut) (level : ℕ) → Fits t c → level ≤ total → lowest (limit_from bound - (total - level)) (start_of d c) (run_profile (side_of d c)) ≡ level
+  part_chosen : (t : Term) (c : Cut) (level : ℕ) → Fits t c → level ≤ total
+      → lowest (limit_from bound - (total - level)) (start_of d c) (run_profile (side_of d c)) ≡ level
       → PartChosen d bound total (limit_from bound - (total - level)) t c level (part_claim d (bound -ℤ pos (total - level)) c level)
   part_chosen t c level f le e =
       let own : ℤ = bound -ℤ pos (total - level) in
@@ -65,20 +70,30 @@ module _ (laws : SideLaws) (d : Direction) (bound : ℤ) (total : ℕ) where
         | inl h ↦ subst (PartChosen d bound total (limit_from bound - (total - level)) t c level) (sym (claim_none d own c level h))
             (record {
               wants = tt;
-              value_is = let q = fit_low d t c f in omega (arith, lowest_end laws (limit_from bound - (total - level)) (start_of d c) (run_profile (side_of d c)) (omega arith), e);
+              value_is = let q = fit_low d t c f in
+                  omega (
+                    arith,
+                    lowest_end laws (limit_from bound - (total - level)) (start_of d c) (run_profile (side_of d c)) (omega arith),
+                    e,
+                  );
               room = tt;
               some = inr (refl, omega arith);
             })
         | inr h ↦ subst (PartChosen d bound total (limit_from bound - (total - level)) t c level) (sym (claim_yes d own c level h))
             (record {
-              wants = record { below = h; low = subst (λ (n : ℕ). level ≤ lowest n (start_of d c) (run_profile (side_of d c))) (sym is) (omega arith) };
+              wants = record {
+                below = h;
+                low = subst (λ (n : ℕ). level ≤ lowest n (start_of d c) (run_profile (side_of d c))) (sym is) (omega arith);
+              };
               value_is = value_same d t own level;
-              room = subst (λ (n : ℕ). HasRoom bound (total - n) (Some (record { direction = d; bound = own; rest = level }))) (sym (value_same d t own level)) (same-bound own);
+              room = subst (λ (n : ℕ). HasRoom bound (total - n) (Some (record { direction = d; bound = own; rest = level })))
+                  (sym (value_same d t own level)) (same-bound own);
               some = inl (λ ks. tt);
             })
       ]
 
-  all_chosen : (others : ℕ) (ts : Parts) (cs : List Cut) (ls : List ℕ) → AllFit ts cs → EachStuck (limit_from bound) others (starts d cs) (sides d cs) ls → total ≡ others + level_sum ls
+  all_chosen : (others : ℕ) (ts : Parts) (cs : List Cut) (ls : List ℕ) → AllFit ts cs
+      → EachStuck (limit_from bound) others (starts d cs) (sides d cs) ls → total ≡ others + level_sum ls
       → AllChosen d bound total others ts cs ls (par_claims d bound total cs ls)
   all_chosen others no_parts [] [] f e h = record { wants = tt; values = refl; room = tt; some = inr tt }
   all_chosen others no_parts [] (l ∷ ls) f e h = absurd e
@@ -89,9 +104,11 @@ module _ (laws : SideLaws) (d : Direction) (bound : ℤ) (total : ℕ) where
       let limit : ℕ = limit_from bound in
       let own : ℤ = bound -ℤ pos (total - l) in
       let m : limit - (others + level_sum ls) ≡ limit - (total - l) = omega arith in
-      let low : lowest (limit - (total - l)) (start_of d c) (run_profile (side_of d c)) ≡ l = subst (λ (n : ℕ). lowest n (start_of d c) (run_profile (side_of d c)) ≡ l) m e.0 in
+      let low : lowest (limit - (total - l)) (start_of d c) (run_profile (side_of d c)) ≡ l =
+      subst (λ (n : ℕ). lowest n (start_of d c) (run_profile (side_of d c)) ≡ l) m e.0 in
       let x : PartChosen d bound total (limit - (total - l)) t c l (part_claim d own c l) = part_chosen t c l f.0 (omega arith) low in
-      let r : AllChosen d bound total (others + l) ts cs ls (par_claims d bound total cs ls) = all_chosen (others + l) ts cs ls f.1 e.2 (omega arith) in
+      let r : AllChosen d bound total (others + l) ts cs ls (par_claims d bound total cs ls) =
+      all_chosen (others + l) ts cs ls f.1 e.2 (omega arith) in
       record {
         wants = (x.wants, r.wants);
         values = omega (arith, x.value_is, r.values);
@@ -100,21 +117,28 @@ module _ (laws : SideLaws) (d : Direction) (bound : ℤ) (total : ℕ) where
           | inl s ↦ inl (s (par_claims d bound total cs ls))
           | inr s ↦ elim r.some [
             | inl u ↦ inl (some_later (part_claim d own c l) (par_claims d bound total cs ls) u)
-            | inr p ↦ inr (subst (λ (n : ℕ). Passes n (start_of d c) (run_profile (side_of d c))) (sym m) (passes_from_top laws (limit - (total - l)) (start_of d c) (run_profile (side_of d c)) s.1), p)
+            | inr p ↦ inr (
+              subst (λ (n : ℕ). Passes n (start_of d c) (run_profile (side_of d c))) (sym m)
+                  (passes_from_top laws (limit - (total - l)) (start_of d c) (run_profile (side_of d c)) s.1),
+              p,
+            )
           ]
         ];
       }
 
   -- where the starts together reach the limit, the first part is claimed
-  first_claimed : (ts : Parts) (cs : List Cut) (ls : List ℕ) → 1 ≤ count ts → AllFit ts cs → EachStuck (limit_from bound) 0 (starts d cs) (sides d cs) ls → level_sum ls ≡ total → limit_from bound ≤ total
+  first_claimed : (ts : Parts) (cs : List Cut) (ls : List ℕ) → 1 ≤ count ts → AllFit ts cs
+      → EachStuck (limit_from bound) 0 (starts d cs) (sides d cs) ls → level_sum ls ≡ total → limit_from bound ≤ total
       → SomeClaim (par_claims d bound total cs ls)
   first_claimed no_parts cs ls some f e h le = absurd (omega arith)
   first_claimed (part t ts) [] ls some f e h le = absurd f
   first_claimed (part t ts) (c ∷ cs) [] some f e h le = absurd e
   first_claimed (part t ts) (c ∷ cs) (l ∷ ls) some f e h le =
       let q = e.1 in
-      let high : limit_from (bound -ℤ pos (total - l)) ≤ top_of d c = omega (arith, laws.above (start_of d c) (run_profile (side_of d c)), limit-less bound (total - l)) in
-      subst (λ (k : Option Claim). SomeClaim (k ∷ par_claims d bound total cs ls)) (sym (claim_yes d (bound -ℤ pos (total - l)) c l high)) tt
+      let high : limit_from (bound -ℤ pos (total - l)) ≤ top_of d c =
+      omega (arith, laws.above (start_of d c) (run_profile (side_of d c)), limit-less bound (total - l)) in
+      subst (λ (k : Option Claim). SomeClaim (k ∷ par_claims d bound total cs ls))
+      (sym (claim_yes d (bound -ℤ pos (total - l)) c l high)) tt
 
 -- ---- the merged side
 
@@ -143,7 +167,8 @@ module _ (laws : SideLaws) where
   side_par forward cs = laws.profile_merge (fronts cs) ∙ ap merge_segments (sides_forward cs)
   side_par backward cs = laws.profile_merge (backs cs) ∙ ap merge_segments (sides_backward cs)
 
-  pub choice_par : (ts : Parts) (cs : List Cut) (d : Direction) (bound : ℤ) (rest : ℕ) (ls : List ℕ) → 1 ≤ count ts → AllFit ts cs → AreStuckWithin d bound cs ls
+  pub choice_par : (ts : Parts) (cs : List Cut) (d : Direction) (bound : ℤ) (rest : ℕ) (ls : List ℕ)
+      → 1 ≤ count ts → AllFit ts cs → AreStuckWithin d bound cs ls
       → Wants (par_cut cs) (record { direction = d; bound = bound; rest = rest })
       → ParChoice ts cs (record { direction = d; bound = bound; rest = rest }) (par_claims d bound (level_sum ls) cs ls)
   choice_par ts cs d bound rest ls some f levels w =
@@ -151,11 +176,16 @@ module _ (laws : SideLaws) where
       let start : ℕ = level_sum (starts d cs) in
       let all : List Segment = merge_segments (sides d cs) in
       let zero_less : limit - 0 ≡ limit = omega arith in
-      let below : limit ≤ top start all = subst (λ (n : ℕ). limit ≤ top n all) (start_par d cs) (subst (λ (l : List Segment). limit ≤ top (start_of d (par_cut cs)) l) (side_par d cs) w.below) in
-      let low : rest ≤ lowest limit start all = subst (λ (n : ℕ). rest ≤ lowest limit n all) (start_par d cs) (subst (λ (l : List Segment). rest ≤ lowest limit (start_of d (par_cut cs)) l) (side_par d cs) w.low) in
-      let together : lowest limit start all ≡ level_sum ls = subst (λ (n : ℕ). lowest n start all ≡ level_sum ls) zero_less levels.together in
-      let pass : EachPasses limit 0 (starts d cs) (sides d cs) ls → Passes limit start all = λ p. subst (λ (n : ℕ). Passes n start all) zero_less (levels.pass p) in
-      let x : AllChosen d bound (level_sum ls) 0 ts cs ls (par_claims d bound (level_sum ls) cs ls) = all_chosen laws d bound (level_sum ls) 0 ts cs ls f levels.each (omega arith) in
+      let below : limit ≤ top start all = subst (λ (n : ℕ). limit ≤ top n all) (start_par d cs)
+      (subst (λ (l : List Segment). limit ≤ top (start_of d (par_cut cs)) l) (side_par d cs) w.below) in
+      let low : rest ≤ lowest limit start all = subst (λ (n : ℕ). rest ≤ lowest limit n all) (start_par d cs)
+      (subst (λ (l : List Segment). rest ≤ lowest limit (start_of d (par_cut cs)) l) (side_par d cs) w.low) in
+      let together : lowest limit start all ≡ level_sum ls =
+      subst (λ (n : ℕ). lowest n start all ≡ level_sum ls) zero_less levels.together in
+      let pass : EachPasses limit 0 (starts d cs) (sides d cs) ls → Passes limit start all =
+      λ p. subst (λ (n : ℕ). Passes n start all) zero_less (levels.pass p) in
+      let x : AllChosen d bound (level_sum ls) 0 ts cs ls (par_claims d bound (level_sum ls) cs ls) =
+      all_chosen laws d bound (level_sum ls) 0 ts cs ls f levels.each (omega arith) in
       record {
         wants = x.wants;
         meets = record {
@@ -163,7 +193,8 @@ module _ (laws : SideLaws) where
             | inl s ↦ s
             | inr p ↦ elim (lt_or_le start limit) [
               | inl lt ↦ absurd (let q = top_from_passes laws limit start all lt (pass p) in omega arith)
-              | inr le ↦ first_claimed laws d bound (level_sum ls) ts cs ls some f levels.each refl (omega (arith, lowest_stuck limit start all le, together))
+              | inr le ↦ first_claimed laws d bound (level_sum ls) ts cs ls some f levels.each refl
+                  (omega (arith, lowest_stuck limit start all le, together))
             ]
           ];
           room = subst (λ (n : ℕ). HaveRoom d bound n (list_of_parts ts) (par_claims d bound (level_sum ls) cs ls)) (sym x.values) x.room;
@@ -186,5 +217,6 @@ all_start d no_parts (c ∷ cs) f = absurd f
 all_start d (part t ts) [] f = absurd f
 all_start d (part t ts) (c ∷ cs) f = (let q = fit_low d t c f.0 in omega arith, all_start d ts cs f.1)
 
-pub some_levels : SideLaws → (d : Direction) (bound : ℤ) (ts : Parts) (cs : List Cut) → AllFit ts cs → AllRise cs → (ls : List ℕ) × AreStuckWithin d bound cs ls
+pub some_levels : SideLaws → (d : Direction) (bound : ℤ) (ts : Parts) (cs : List Cut)
+    → AllFit ts cs → AllRise cs → (ls : List ℕ) × AreStuckWithin d bound cs ls
 some_levels laws d bound ts cs f r = laws.levels (limit_from bound) 0 (starts d cs) (sides d cs) (all_rising d cs r) (all_start d ts cs f)

@@ -10,7 +10,8 @@ use Rattle.hill_valley.specs.Side.{run_profile}
 use Rattle.segment_merge.specs.Merging.{merge_runs}
 use Rattle.sp_terms.specs.Term.{Direction}
 use Rattle.segment_merge.specs.Laws.{SideLaws}
-use Rattle.cut_laws.specs.Cuts.{Cut, side_of, start_of, top_of, front_peak, back_peak, over_task, cut_first, cut_second, series_cut, par_cut, fronts, backs, starts, sides}
+use Rattle.cut_laws.specs.Cuts.{Cut, side_of, start_of, top_of, front_peak, back_peak, over_task, cut_first}
+use Rattle.cut_laws.specs.Cuts.{cut_second, series_cut, par_cut, fronts, backs, starts, sides}
 use Rattle.cut_laws.specs.Tops.{MeetsAtLeast, BothRise, LiesInFirst, LiesInSecond, SomeReaches, tops}
 use Rattle.cut_laws.proofs.Composed.{is_first, is_second, crossed_net, crossed_rises, inserted_net}
 use Rattle.lists.proofs.Orders.{le_or_lt}
@@ -22,8 +23,10 @@ use Rattle.cut_laws.proofs.ParChoice.{side_par, start_par}
 module _ (laws : SideLaws) where
   -- ---- a series
 
-  crossed_top : (start mid hill next low : ℕ) (near between far : List Segment) → net_sum near + low ≡ start → low ≤ mid → next ≤ hill → next ≤ low + net_sum far → net_sum far ≤ next
-      → top start (cross_hill low (max (top mid between) hill) next far near) ≡ max (top start near) (max (max (top mid between) hill) (top next far))
+  crossed_top : (start mid hill next low : ℕ) (near between far : List Segment)
+      → net_sum near + low ≡ start → low ≤ mid → next ≤ hill → next ≤ low + net_sum far → net_sum far ≤ next
+      → top start (cross_hill low (max (top mid between) hill) next far near)
+      ≡ max (top start near) (max (max (top mid between) hill) (top next far))
   crossed_top start mid hill next low near between far room wide enough falls room' =
       let peak : ℕ = max (top mid between) hill in
       let at : start - net_sum near ≡ low = omega arith in
@@ -37,8 +40,10 @@ module _ (laws : SideLaws) where
         let qa = ea.back in
         let qb = eb.front in
         let peak : ℕ = max (front_peak b) hill in
-        let e : back_peak (cut_first a task hill b) ≡ top b.fin (cross_hill b.least peak a.fin (run_profile a.back) (run_profile b.back)) = ap (top b.fin) (laws.profile_crossing b.least peak a.fin (over_task b.front task) a.back b.back) in
-        let x = crossed_top b.fin b.initial hill a.fin b.least (run_profile b.back) (run_profile b.front) (run_profile a.back) eb.back (omega arith) final (omega arith) (omega arith) in
+        let e : back_peak (cut_first a task hill b) ≡ top b.fin (cross_hill b.least peak a.fin (run_profile a.back) (run_profile b.back)) =
+        ap (top b.fin) (laws.profile_crossing b.least peak a.fin (over_task b.front task) a.back b.back) in
+        let x = crossed_top b.fin b.initial hill a.fin b.least (run_profile b.back) (run_profile b.front)
+        (run_profile a.back) eb.back (omega arith) final (omega arith) (omega arith) in
         record { front = refl; back = omega (arith, e, x) }
 
     second_kind : b.least ≤ a.least → LiesInSecond a b hill (cut_second a task hill b)
@@ -46,8 +51,11 @@ module _ (laws : SideLaws) where
         let qa = ea.back in
         let qb = eb.front in
         let peak : ℕ = max (back_peak a) hill in
-        let e : front_peak (cut_second a task hill b) ≡ top a.initial (cross_hill a.least peak b.initial (run_profile b.front) (run_profile a.front)) = ap (top a.initial) (laws.profile_crossing a.least peak b.initial (over_task a.back task) b.front a.front) in
-        let x = crossed_top a.initial a.fin hill b.initial a.least (run_profile a.front) (run_profile a.back) (run_profile b.front) ea.front (omega arith) initial (omega arith) (omega arith) in
+        let e : front_peak (cut_second a task hill b)
+        ≡ top a.initial (cross_hill a.least peak b.initial (run_profile b.front) (run_profile a.front)) =
+        ap (top a.initial) (laws.profile_crossing a.least peak b.initial (over_task a.back task) b.front a.front) in
+        let x = crossed_top a.initial a.fin hill b.initial a.least (run_profile a.front) (run_profile a.back)
+        (run_profile b.front) ea.front (omega arith) initial (omega arith) (omega arith) in
         record { front = omega (arith, e, x); back = refl }
 
     pub in_first : a.least ≤ b.least → LiesInFirst a b hill (series_cut a task hill b)
@@ -59,9 +67,11 @@ module _ (laws : SideLaws) where
   -- ---- parts side by side
 
   top_par : (d : Direction) (cs : List Cut) → top_of d (par_cut cs) ≡ top (level_sum (starts d cs)) (merge_segments (sides d cs))
-  top_par d cs = ap (λ (n : ℕ). top n (run_profile (side_of d (par_cut cs)))) (start_par d cs) ∙ ap (top (level_sum (starts d cs))) (side_par laws d cs)
+  top_par d cs = ap (λ (n : ℕ). top n (run_profile (side_of d (par_cut cs)))) (start_par d cs)
+      ∙ ap (top (level_sum (starts d cs))) (side_par laws d cs)
 
-  some_or_all : (d : Direction) (limit total others : ℕ) (cs : List Cut) (ls : List ℕ) → EachStuck limit others (starts d cs) (sides d cs) ls → total ≡ others + level_sum ls
+  some_or_all : (d : Direction) (limit total others : ℕ) (cs : List Cut) (ls : List ℕ)
+      → EachStuck limit others (starts d cs) (sides d cs) ls → total ≡ others + level_sum ls
       → SomeReaches d limit total cs ls ⊎ EachPasses limit others (starts d cs) (sides d cs) ls
   some_or_all d limit total others [] [] e h = inr tt
   some_or_all d limit total others [] (l ∷ ls) e h = absurd e
@@ -72,11 +82,15 @@ module _ (laws : SideLaws) where
         | inr le ↦ inl (inl le)
         | inl lt ↦ elim (some_or_all d limit total (others + l) cs ls e.2 (omega arith)) [
           | inl later ↦ inl (inr later)
-          | inr all ↦ inr (passes_from_top laws (limit - (others + level_sum ls)) (start_of d c) (run_profile (side_of d c)) (omega (arith, lt, m)), all)
+          | inr all ↦ inr (
+            passes_from_top laws (limit - (others + level_sum ls)) (start_of d c) (run_profile (side_of d c)) (omega (arith, lt, m)),
+            all,
+          )
         ]
       ]
 
-  pub some_reaches : (d : Direction) (limit : ℕ) (cs : List Cut) (ls : List ℕ) → AreLevels limit 0 (starts d cs) (sides d cs) ls → limit ≤ top_of d (par_cut cs) → level_sum (starts d cs) < limit
+  pub some_reaches : (d : Direction) (limit : ℕ) (cs : List Cut) (ls : List ℕ)
+      → AreLevels limit 0 (starts d cs) (sides d cs) ls → limit ≤ top_of d (par_cut cs) → level_sum (starts d cs) < limit
       → SomeReaches d limit (level_sum ls) cs ls
   some_reaches d limit cs ls levels le lt =
       let zero_less : limit - 0 ≡ limit = omega arith in
@@ -84,16 +98,21 @@ module _ (laws : SideLaws) where
       let all : List Segment = merge_segments (sides d cs) in
       elim (some_or_all d limit (level_sum ls) 0 cs ls levels.each (omega arith)) [
         | inl some ↦ some
-        | inr each ↦ absurd (let q = top_from_passes laws limit start all lt (subst (λ (n : ℕ). Passes n start all) zero_less (levels.pass each)) in omega (arith, q, le, top_par d cs))
+        | inr each ↦
+            absurd (let q = top_from_passes laws limit start all lt (subst (λ (n : ℕ). Passes n start all) zero_less (levels.pass each)) in
+            omega (arith, q, le, top_par d cs))
       ]
 
-  levels_le : (d : Direction) (limit others : ℕ) (cs : List Cut) (ls : List ℕ) → EachStuck limit others (starts d cs) (sides d cs) ls → level_sum ls ≤ tops d cs
+  levels_le : (d : Direction) (limit others : ℕ) (cs : List Cut) (ls : List ℕ)
+      → EachStuck limit others (starts d cs) (sides d cs) ls → level_sum ls ≤ tops d cs
   levels_le d limit others [] [] e = omega arith
   levels_le d limit others [] (l ∷ ls) e = absurd e
   levels_le d limit others (c ∷ cs) [] e = absurd e
-  levels_le d limit others (c ∷ cs) (l ∷ ls) e = let q = e.1 in omega (arith, laws.above (start_of d c) (run_profile (side_of d c)), levels_le d limit (others + l) cs ls e.2)
+  levels_le d limit others (c ∷ cs) (l ∷ ls) e = let q = e.1 in
+      omega (arith, laws.above (start_of d c) (run_profile (side_of d c)), levels_le d limit (others + l) cs ls e.2)
 
-  each_passes : (d : Direction) (limit others : ℕ) (cs : List Cut) (ls : List ℕ) → EachStuck limit others (starts d cs) (sides d cs) ls → others + tops d cs < limit → EachPasses limit others (starts d cs) (sides d cs) ls
+  each_passes : (d : Direction) (limit others : ℕ) (cs : List Cut) (ls : List ℕ) → EachStuck limit others (starts d cs) (sides d cs) ls
+      → others + tops d cs < limit → EachPasses limit others (starts d cs) (sides d cs) ls
   each_passes d limit others [] [] e h = tt
   each_passes d limit others [] (l ∷ ls) e h = absurd e
   each_passes d limit others (c ∷ cs) [] e h = absurd e
@@ -108,13 +127,15 @@ module _ (laws : SideLaws) where
   starts_le d [] = omega arith
   starts_le d (c ∷ cs) = omega (arith, laws.above (start_of d c) (run_profile (side_of d c)), starts_le d cs)
 
-  pub par_top : (d : Direction) (cs : List Cut) → AllRising (sides d cs) → AllStart (starts d cs) (sides d cs) → top_of d (par_cut cs) ≤ tops d cs
+  pub par_top : (d : Direction) (cs : List Cut) → AllRising (sides d cs)
+      → AllStart (starts d cs) (sides d cs) → top_of d (par_cut cs) ≤ tops d cs
   par_top d cs rising room =
       let limit : ℕ = suc (tops d cs) in
       let (ls, levels) = laws.levels limit 0 (starts d cs) (sides d cs) rising room in
       let z : limit - 0 ≡ limit = omega arith in
       let p : Passes limit (level_sum (starts d cs)) (merge_segments (sides d cs)) =
-      subst (λ (n : ℕ). Passes n (level_sum (starts d cs)) (merge_segments (sides d cs))) z (levels.pass (each_passes d limit 0 cs ls levels.each (omega arith))) in
+      subst (λ (n : ℕ). Passes n (level_sum (starts d cs)) (merge_segments (sides d cs))) z
+      (levels.pass (each_passes d limit 0 cs ls levels.each (omega arith))) in
       let t = top_from_passes laws limit (level_sum (starts d cs)) (merge_segments (sides d cs)) (omega (arith, starts_le d cs)) p in
       omega (arith, t, top_par d cs)
 
@@ -125,14 +146,25 @@ module _ (laws : SideLaws) where
       let qa = ea.back in
       record {
         front = ea.front;
-        back = omega (arith, crossed_net laws b.least (max (front_peak b) hill) a.fin (over_task b.front task) a.back b.back (omega arith) (omega arith), ea.back, eb.back);
+        back = omega (
+          arith,
+          crossed_net laws b.least (max (front_peak b) hill) a.fin (over_task b.front task) a.back b.back (omega arith) (omega arith),
+          ea.back,
+          eb.back,
+        );
       }
 
   second_meets : (a b : Cut) (task hill : ℕ) → MeetsAtLeast a → MeetsAtLeast b → b.least ≤ a.least → MeetsAtLeast (cut_second a task hill b)
   second_meets a b task hill ea eb le =
       let qb = eb.front in
       record {
-        front = omega (arith, crossed_net laws a.least (max (back_peak a) hill) b.initial (over_task a.back task) b.front a.front (omega arith) (omega arith), ea.front, eb.front);
+        front = omega (
+          arith,
+          crossed_net laws a.least (max (back_peak a) hill) b.initial
+              (over_task a.back task) b.front a.front (omega arith) (omega arith),
+          ea.front,
+          eb.front,
+        );
         back = eb.back;
       }
 
@@ -145,9 +177,15 @@ module _ (laws : SideLaws) where
   pub series_rises : (a b : Cut) (task hill : ℕ) → BothRise a → BothRise b → BothRise (series_cut a task hill b)
   series_rises a b task hill ra rb = elim (le_or_lt a.least b.least) [
     | inl h ↦ subst BothRise (sym (is_first a task hill b h))
-        (record { front = ra.front; back = crossed_rises laws b.least (max (front_peak b) hill) a.fin (over_task b.front task) a.back b.back rb.back })
+        (record {
+          front = ra.front;
+          back = crossed_rises laws b.least (max (front_peak b) hill) a.fin (over_task b.front task) a.back b.back rb.back;
+        })
     | inr h ↦ subst BothRise (sym (is_second a task hill b h))
-        (record { front = crossed_rises laws a.least (max (back_peak a) hill) b.initial (over_task a.back task) b.front a.front ra.front; back = rb.back })
+        (record {
+          front = crossed_rises laws a.least (max (back_peak a) hill) b.initial (over_task a.back task) b.front a.front ra.front;
+          back = rb.back;
+        })
   ]
 
   pub par_meets : (cs : List Cut) → AllByRecursion MeetsAtLeast cs → MeetsAtLeast (par_cut cs)

@@ -75,7 +75,8 @@ part_claim d bound c level =
 abbrev pub par_claims : Direction → ℤ → ℕ → List Cut → List ℕ → List (Option Claim)
 par_claims d bound total [] levels = []
 par_claims d bound total (c ∷ cs) [] = []
-par_claims d bound total (c ∷ cs) (level ∷ levels) = part_claim d (bound -ℤ pos (total - level)) c level ∷ par_claims d bound total cs levels
+par_claims d bound total (c ∷ cs) (level ∷ levels) =
+    part_claim d (bound -ℤ pos (total - level)) c level ∷ par_claims d bound total cs levels
 
 abbrev pub AllFit : Parts → List Cut → Type 0
 AllFit no_parts [] = Unit {0}

@@ -7,7 +7,8 @@ use Rattle.elim_tree.proofs.Fills.{different, clique, from_pattern, origin}
 use Rattle.ordering.proofs.FillLemmas.{later}
 
 -- the least number below n that passes a test, or none does
-pub least_below : (p : ℕ → Bool) (n : ℕ) → ((m : ℕ) × (m < n) × (p m ≡ true) × ((k : ℕ) → k < m → p k ≡ false)) ⊎ ((k : ℕ) → k < n → p k ≡ false)
+pub least_below : (p : ℕ → Bool) (n : ℕ)
+    → ((m : ℕ) × (m < n) × (p m ≡ true) × ((k : ℕ) → k < m → p k ≡ false)) ⊎ ((k : ℕ) → k < n → p k ≡ false)
 least_below p zero = inr (λ k lt. absurd (omega arith))
 least_below p (suc n) =
     elim (least_below p n) [

@@ -1,5 +1,6 @@
 -- Structures, parents and tables of parents, in the words of the proofs: what a column reaches, and the first of it.
-use Rattle.std.proofs.Common.{sym, ◌∙◌, ap, ◌≡◌, ◌≢◌, inl, inr, refl, ℕ, zero, suc, ◌<◌, ◌≤◌, Bool, IsTrue, List, [], ◌∷◌, length, get_or, ◌==◌, arith}
+use Rattle.std.proofs.Common.{sym, ◌∙◌, ap, ◌≡◌, ◌≢◌, inl, inr, refl, ℕ, zero, suc, ◌<◌, ◌≤◌}
+use Rattle.std.proofs.Common.{Bool, IsTrue, List, [], ◌∷◌, length, get_or, ◌==◌, arith}
 use Rattle.std.proofs.lemmas.Bool.{cases_lt, or_cases, or_left, or_right, eqb-true, eq-eqb}
 use Rattle.std.proofs.lemmas.List.{get_or_past}
 use Rattle.std.proofs.lemmas.List.FromFn.{length-map-range_with_len, get_or-map-range_with_len}
@@ -57,7 +58,8 @@ module _ (joined : ℕ → ℕ → Bool) (pattern : IsAdjacency joined) (n : ℕ
 
 pub parent_in_list : (joined : ℕ → ℕ → Bool) (n j : ℕ) → IsVertex n j → parent_at (parents_of joined n) j ≡ parent_of joined n j
 parent_in_list joined n zero v = absurd (let some = v.0 in omega arith)
-parent_in_list joined n (suc i) v = let le = v.1 in get_or-map-range_with_len (parent_of joined n) 1 n i (suc i) 0 (omega arith) (omega arith)
+parent_in_list joined n (suc i) v = let le = v.1 in
+    get_or-map-range_with_len (parent_of joined n) 1 n i (suc i) 0 (omega arith) (omega arith)
 
 pub no_parent_beyond : (parents : List ℕ) (j : ℕ) → length parents < j → parent_at parents j ≡ 0
 no_parent_beyond parents zero lt = refl
@@ -72,7 +74,8 @@ vertex_with_parent parents (suc i) some =
     ]
 
 -- a parent is the first of a column's structure, so it comes later
-pub parents_rise : ((joined : ℕ → ℕ → Bool) (n j : ℕ) → IsParent joined n j (parent_of joined n j)) → (joined : ℕ → ℕ → Bool) (n : ℕ) → 1 ≤ n → n ≤ most_order → IsForest (parents_of joined n)
+pub parents_rise : ((joined : ℕ → ℕ → Bool) (n j : ℕ) → IsParent joined n j (parent_of joined n j))
+    → (joined : ℕ → ℕ → Bool) (n : ℕ) → 1 ≤ n → n ≤ most_order → IsForest (parents_of joined n)
 parents_rise firsts joined n some few =
     let len = length-map-range_with_len (parent_of joined n) 1 n in
     record {
@@ -102,7 +105,8 @@ pub length_of_table : (table : List ℕ) → IsParentTable table → length tabl
 length_of_table [] is = let some = is.some in absurd (omega arith)
 length_of_table (x ∷ xs) is = refl
 
-pub read_within : (table : List ℕ) → IsParentTable table → (j read : ℕ) → j ≤ length (parents_in table) → read ≡ get_or table j read → read ≤ length (parents_in table)
+pub read_within : (table : List ℕ) → IsParentTable table → (j read : ℕ)
+    → j ≤ length (parents_in table) → read ≡ get_or table j read → read ≤ length (parents_in table)
 read_within table is j read le e =
     let long = length_of_table table is in
     let here = get_or_default_zero table j read (omega arith) in

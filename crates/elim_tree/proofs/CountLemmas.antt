@@ -1,5 +1,6 @@
 -- The pass that counts the columns below each column: what it has counted so far, and that one column more keeps this.
-use Rattle.std.proofs.Common.{add-zero, add-suc, sym, ◌∙◌, subst, ap, ◌+◌, ◌-◌, ◌≡◌, ◌≢◌, inl, inr, ℕ, zero, suc, ◌<◌, ◌≤◌, arith, refl, cond, ◌==◌}
+use Rattle.std.proofs.Common.{add-zero, add-suc, sym, ◌∙◌, subst, ap, ◌+◌, ◌-◌, ◌≡◌, ◌≢◌}
+use Rattle.std.proofs.Common.{inl, inr, ℕ, zero, suc, ◌<◌, ◌≤◌, arith, refl, cond, ◌==◌}
 use Rattle.std.proofs.lemmas.Bool.{cases_eq, cond-true, cond-false, eq-eqb, ne_eqb}
 use Rattle.elim_tree.specs.Spans.{in_children}
 
@@ -9,15 +10,19 @@ IsRising n parent = (x : ℕ) → 0 < parent x → (x < parent x) × (parent x <
 
 -- ---- the columns in the subtrees of children
 
-pub children_yes : (parent below : ℕ → ℕ) (p m : ℕ) → 0 < m → parent m ≡ p → in_children parent below p (suc m) ≡ below m + 1 + in_children parent below p m
+pub children_yes : (parent below : ℕ → ℕ) (p m : ℕ) → 0 < m → parent m ≡ p
+    → in_children parent below p (suc m) ≡ below m + 1 + in_children parent below p m
 unfolding in_children
 children_yes parent below p m pos e =
-    ap (λ v. v + in_children parent below p m) (cond-true (parent m == p) (cond (m == 0) 0 (below m + 1)) 0 (eq-eqb (parent m) p e) ∙ cond-false (m == 0) 0 (below m + 1) (ne_eqb m 0 (omega arith)))
+    ap (λ v. v + in_children parent below p m)
+    (cond-true (parent m == p) (cond (m == 0) 0 (below m + 1)) 0 (eq-eqb (parent m) p e)
+    ∙ cond-false (m == 0) 0 (below m + 1) (ne_eqb m 0 (omega arith)))
 
 pub children_no : (parent below : ℕ → ℕ) (p m : ℕ) → parent m ≢ p → in_children parent below p (suc m) ≡ in_children parent below p m
 unfolding in_children
 children_no parent below p m ne =
-    ap (λ v. v + in_children parent below p m) (cond-false (parent m == p) (cond (m == 0) 0 (below m + 1)) 0 (ne_eqb (parent m) p ne)) ∙ omega arith
+    ap (λ v. v + in_children parent below p m) (cond-false (parent m == p) (cond (m == 0) 0 (below m + 1)) 0 (ne_eqb (parent m) p ne))
+    ∙ omega arith
 
 -- column 0 is no child
 pub children_none : (parent below : ℕ → ℕ) (p : ℕ) → in_children parent below p 1 ≡ 0
@@ -34,13 +39,18 @@ children_le parent below p m = omega arith
 
 children_further : (parent below : ℕ → ℕ) (p m d : ℕ) → in_children parent below p m ≤ in_children parent below p (m + d)
 children_further parent below p m zero = rw add-zero (omega arith)
-children_further parent below p m (suc d) = let a = children_further parent below p m d in let b = children_le parent below p (m + d) in rw add-suc (omega arith)
+children_further parent below p m (suc d) = let a = children_further parent below p m d in
+    let b = children_le parent below p (m + d) in
+    rw add-suc (omega arith)
 
 pub children_to : (parent below : ℕ → ℕ) (p m k : ℕ) → m ≤ k → in_children parent below p m ≤ in_children parent below p k
-children_to parent below p m k le = let a = children_further parent below p m (k - m) in let e : m + (k - m) ≡ k = omega arith in subst (λ v. in_children parent below p m ≤ in_children parent below p v) e a
+children_to parent below p m k le = let a = children_further parent below p m (k - m) in
+    let e : m + (k - m) ≡ k = omega arith in
+    subst (λ v. in_children parent below p m ≤ in_children parent below p v) e a
 
 -- a column's children are less than it
-pub children_all : (n : ℕ) (parent below : ℕ → ℕ) (p m : ℕ) → IsRising n parent → 0 < p → p ≤ m → in_children parent below p m ≡ in_children parent below p p
+pub children_all : (n : ℕ) (parent below : ℕ → ℕ) (p m : ℕ) → IsRising n parent
+    → 0 < p → p ≤ m → in_children parent below p m ≡ in_children parent below p p
 children_all n parent below p zero rising pos le = absurd (omega arith)
 children_all n parent below p (suc m) rising pos le =
     elim (cases_eq p (suc m)) [
@@ -51,7 +61,8 @@ children_all n parent below p (suc m) rising pos le =
     ]
 
 -- other counts, the same where they are looked at
-pub children_same : (parent below below' : ℕ → ℕ) (p m : ℕ) → ((c : ℕ) → 0 < c → c < m → below' c ≡ below c) → in_children parent below' p m ≡ in_children parent below p m
+pub children_same : (parent below below' : ℕ → ℕ) (p m : ℕ) → ((c : ℕ) → 0 < c → c < m → below' c ≡ below c)
+    → in_children parent below' p m ≡ in_children parent below p m
 unfolding in_children
 children_same parent below below' p zero same = refl
 children_same parent below below' p (suc m) same =
@@ -65,7 +76,8 @@ children_same parent below below' p (suc m) same =
     ]
 
 -- one count more
-pub children_more : (parent below below' : ℕ → ℕ) (p d m q : ℕ) → 0 < q → q < m → parent q ≡ p → below' q ≡ below q + d → ((c : ℕ) → c ≢ q → below' c ≡ below c)
+pub children_more : (parent below below' : ℕ → ℕ) (p d m q : ℕ) → 0 < q → q < m
+    → parent q ≡ p → below' q ≡ below q + d → ((c : ℕ) → c ≢ q → below' c ≡ below c)
     → in_children parent below' p m ≡ in_children parent below p m + d
 children_more parent below below' p d zero q pos lt up more same = absurd (omega arith)
 children_more parent below below' p d (suc m) q pos lt up more same =
@@ -120,7 +132,8 @@ counted_none (suc m) parent below before some none = record {
   whole = let a = all_none below m none in let b = children_none (λ _. 0) below 0 in let c = none 0 in omega arith;
 }
 
-module _ (j n : ℕ) (parent below before : ℕ → ℕ) (rising : IsRising n parent) (pos : 0 < j) (lt : j < n) (counted : IsCountedTo j n parent below before) where
+module _ (j n : ℕ) (parent below before : ℕ → ℕ) (rising : IsRising n parent)
+    (pos : 0 < j) (lt : j < n) (counted : IsCountedTo j n parent below before) where
   pub inside : parent j < n
   inside = elim (cases_eq (parent j) 0) [ inl e ↦ omega arith | inr ne ↦ (rising j (omega arith)).1 ]
 
@@ -143,7 +156,8 @@ module _ (j n : ℕ) (parent below before : ℕ → ℕ) (rising : IsRising n pa
             omega arith
       ]
 
-  pub counted_more : (below' before' : ℕ → ℕ) → below' (parent j) ≡ below (parent j) + below j + 1 → ((x : ℕ) → x ≢ parent j → below' x ≡ below x)
+  pub counted_more : (below' before' : ℕ → ℕ) → below' (parent j) ≡ below (parent j) + below j + 1
+      → ((x : ℕ) → x ≢ parent j → below' x ≡ below x)
       → before' j ≡ below (parent j) → ((x : ℕ) → x ≢ j → before' x ≡ before x) → IsCountedTo (suc j) n parent below' before'
   counted_more below' before' more same here other = record {
     sizes = λ x xn. elim (cases_eq x (parent j)) [
@@ -153,21 +167,31 @@ module _ (j n : ℕ) (parent below before : ℕ → ℕ) (rising : IsRising n pa
           let c = children_same parent below below' x (suc j) early in
           let d : below' x ≡ below x + below j + 1 = rw e more in
           omega arith
-      | inr ne ↦ same x ne ∙ counted.sizes x xn ∙ sym (children_no parent below x j (λ e. ne (sym e))) ∙ sym (children_same parent below below' x (suc j) early)
+      | inr ne ↦ same x ne ∙ counted.sizes x xn ∙ sym (children_no parent below x j (λ e. ne (sym e)))
+          ∙ sym (children_same parent below below' x (suc j) early)
     ];
     siblings = λ c cp cj. elim (cases_eq c j) [
       | inl e ↦
           let a : before' j ≡ in_children parent below' (parent j) j =
-          here ∙ counted.sizes (parent j) inside ∙ sym (children_same parent below below' (parent j) j (λ x xp xj. early x xp (omega arith))) in
+          here ∙ counted.sizes (parent j) inside
+          ∙ sym (children_same parent below below' (parent j) j (λ x xp xj. early x xp (omega arith))) in
           rw e a
-      | inr ne ↦ other c ne ∙ counted.siblings c cp (omega arith) ∙ sym (children_same parent below below' (parent c) c (λ x xp xc. early x xp (omega arith)))
+      | inr ne ↦ other c ne ∙ counted.siblings c cp (omega arith)
+          ∙ sym (children_same parent below below' (parent c) c (λ x xp xc. early x xp (omega arith)))
     ];
-    whole = let whole = counted.whole in let now = all_here in let sums = total in let old = children_same (λ _. 0) below below' 0 (suc j) early in omega arith;
+    whole = let whole = counted.whole in
+        let now = all_here in
+        let sums = total in
+        let old = children_same (λ _. 0) below below' 0 (suc j) early in
+        omega arith;
   }
     where
       early : (c : ℕ) → 0 < c → c < suc j → below' c ≡ below c
       early c cp cj =
-          same c (λ e. elim (cases_eq (parent j) 0) [ inl z ↦ absurd (omega arith) | inr nz ↦ let up = rising j (omega arith) in absurd (omega arith) ])
+          same c (λ e. elim (cases_eq (parent j) 0) [
+            | inl z ↦ absurd (omega arith)
+            | inr nz ↦ let up = rising j (omega arith) in absurd (omega arith)
+          ])
 
       total : below' 0 + in_all below' n ≡ below 0 + in_all below n + below j + 1
       total =
@@ -177,7 +201,8 @@ module _ (j n : ℕ) (parent below before : ℕ → ℕ) (rising : IsRising n pa
                 let b : below' 0 ≡ below 0 + below j + 1 = subst (λ p. below' p ≡ below p + below j + 1) e more in
                 omega arith
             | inr ne ↦
-                let a = children_more (λ _. 0) below below' 0 (below j + 1) n (parent j) (omega arith) inside refl (more ∙ omega arith) same in
+                let a =
+                children_more (λ _. 0) below below' 0 (below j + 1) n (parent j) (omega arith) inside refl (more ∙ omega arith) same in
                 let b = same 0 (λ e. ne (sym e)) in
                 omega arith
           ]

@@ -19,7 +19,8 @@ to_zero joined a b h = h
 -- edges join vertices that are not eliminated yet
 
 -- an edge between two vertices stays while neither is eliminated
-pub stays : (joined : ℕ → ℕ → Bool) (k m a b : ℕ) → graph_at joined k a b ≡ true → k + m ≤ a → k + m ≤ b → graph_at joined (k + m) a b ≡ true
+pub stays : (joined : ℕ → ℕ → Bool) (k m a b : ℕ) → graph_at joined k a b ≡ true
+    → k + m ≤ a → k + m ≤ b → graph_at joined (k + m) a b ≡ true
 stays joined k zero a b h ha hb = rw add-zero h
 stays joined k (suc m) a b h ha hb =
     let ih = stays joined k m a b h (omega arith) (omega arith) in
@@ -67,7 +68,8 @@ module _ (joined : ℕ → ℕ → Bool) (pattern : IsAdjacency joined) where
       rw d at far
 
   -- where an edge comes from
-  pub origin : (k a b : ℕ) → graph_at joined k a b ≡ true → (joined a b ≡ true) ⊎ ((m : ℕ) × (m < k) × Reaches joined m a × Reaches joined m b)
+  pub origin : (k a b : ℕ) → graph_at joined k a b ≡ true
+      → (joined a b ≡ true) ⊎ ((m : ℕ) × (m < k) × Reaches joined m a × Reaches joined m b)
   origin zero a b h = inl (at_zero joined a b h)
   origin (suc j) a b h =
       elim (at_suc joined j a b h).from [

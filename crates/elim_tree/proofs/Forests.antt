@@ -27,7 +27,8 @@ module _ (joined : ℕ → ℕ → Bool) (pattern : IsAdjacency joined) where
   covers_up x k h = λ m lt hm. clique joined pattern x k m h hm lt
 
   module _ (k start : ℕ) (root parent ancestor : ℕ → ℕ) where
-    pub way_start : IsGrown joined k root parent ancestor → start < k → Reaches joined start k → IsOnWay joined k start start root parent ancestor
+    pub way_start : IsGrown joined k root parent ancestor → start < k
+        → Reaches joined start k → IsOnWay joined k start start root parent ancestor
     way_start l lt h = record {
       below = lt;
       reach = h;
@@ -40,7 +41,8 @@ module _ (joined : ℕ → ℕ → Bool) (pattern : IsAdjacency joined) where
 
     module _ (c : ℕ) (way : IsOnWay joined k start c root parent ancestor) where
       -- the way goes on
-      pub way_on : (ancestor' : ℕ → ℕ) → ancestor' c ≡ k → ((x : ℕ) → x ≢ c → ancestor' x ≡ ancestor x) → 0 < ancestor c → ancestor c ≢ k → IsOnWay joined k start (ancestor c) root parent ancestor'
+      pub way_on : (ancestor' : ℕ → ℕ) → ancestor' c ≡ k → ((x : ℕ) → x ≢ c → ancestor' x ≡ ancestor x)
+          → 0 < ancestor c → ancestor c ≢ k → IsOnWay joined k start (ancestor c) root parent ancestor'
       way_on ancestor' here others pos ne =
           let below = way.below in
           let at = way.ancestors c way.below pos in
@@ -48,13 +50,30 @@ module _ (joined : ℕ → ℕ → Bool) (pattern : IsAdjacency joined) where
             below = omega arith;
             reach = at.2 k (omega arith) way.reach;
             same = elim at.3 [ inl e ↦ sym e ∙ way.same | inr f ↦ absurd (omega arith) ];
-            bare = λ x b e. let f = way.bare x b e in (f.0, others x (λ q. let z' = subst (λ y. ancestor y ≡ 0) q f.1 in omega arith) ∙ f.1, f.2);
-            tied = λ x b p. let f = way.tied x b p in (f.0, f.1, f.2, elim (cases_eq x c) [ inl q ↦ let z = ap ancestor' q ∙ here in omega arith | inr q ↦ let z = others x q in let w = f.3 in omega arith ]);
+            bare = λ x b e. let f = way.bare x b e in
+                (f.0, others x (λ q. let z' = subst (λ y. ancestor y ≡ 0) q f.1 in omega arith) ∙ f.1, f.2);
+            tied = λ x b p. let f = way.tied x b p in (
+              f.0,
+              f.1,
+              f.2,
+              elim (cases_eq x c) [
+                | inl q ↦ let z = ap ancestor' q ∙ here in omega arith
+                | inr q ↦ let z = others x q in let w = f.3 in omega arith
+              ],
+            );
             ancestors = λ x b p. elim (cases_eq x c) [
-              | inl q ↦ let z = ap ancestor' q ∙ here in
-                  (omega arith, omega arith, subst (λ v. Covers joined x v) (sym z) (subst (λ v. Covers joined v k) (sym q) (covers_up c k way.reach)), inr (omega arith, z, ap root q ∙ way.same))
-              | inr q ↦ let z = others x q in let f = way.ancestors x b (omega arith) in
-                  (omega arith, omega arith, subst (λ v. Covers joined x v) (sym z) f.2, elim f.3 [ inl e ↦ inl (e ∙ ap root (sym z)) | inr t ↦ inr (omega arith, z ∙ t.1, t.2) ])
+              | inl q ↦ let z = ap ancestor' q ∙ here in (
+                omega arith,
+                omega arith,
+                subst (λ v. Covers joined x v) (sym z) (subst (λ v. Covers joined v k) (sym q) (covers_up c k way.reach)),
+                inr (omega arith, z, ap root q ∙ way.same),
+              )
+              | inr q ↦ let z = others x q in let f = way.ancestors x b (omega arith) in (
+                omega arith,
+                omega arith,
+                subst (λ v. Covers joined x v) (sym z) f.2,
+                elim f.3 [ inl e ↦ inl (e ∙ ap root (sym z)) | inr t ↦ inr (omega arith, z ∙ t.1, t.2) ],
+              )
             ];
             fresh = λ x b. let f = way.fresh x b in (f.0, others x (omega arith) ∙ f.1, f.2);
           }
@@ -79,7 +98,8 @@ module _ (joined : ℕ → ℕ → Bool) (pattern : IsAdjacency joined) where
       -- the way ends at the root c, and k becomes its parent
       pub way_end : (parent' ancestor' : ℕ → ℕ) → parent' c ≡ k → ((x : ℕ) → x ≢ c → parent' x ≡ parent x)
           → ancestor' c ≡ k → ((x : ℕ) → x ≢ c → ancestor' x ≡ ancestor x) → ancestor c ≡ 0
-          → IsGrown joined k (put_under root c k) parent' ancestor' × (put_under root c k start ≡ k) × ((x : ℕ) → root x ≡ k → put_under root c k x ≡ k)
+          → IsGrown joined k (put_under root c k) parent' ancestor'
+          × (put_under root c k start ≡ k) × ((x : ℕ) → root x ≡ k → put_under root c k x ≡ k)
       way_end parent' ancestor' here_p others_p here_j others_j none =
           let below = way.below in
           let lone : parent c ≡ 0 = elim (cases_order (parent c) 0) [
@@ -101,7 +121,13 @@ module _ (joined : ℕ → ℕ → Bool) (pattern : IsAdjacency joined) where
                     let zj = ap ancestor' q ∙ here_j in (
                       subst (λ v. IsFirstReached joined x v) (sym z) (subst (λ v. IsFirstReached joined v k) (sym q) (record {
                         reached = λ _. way.reach;
-                        least = λ i h. (omega arith, elim (cases_order k i) [ inl e ↦ omega arith | inr o ↦ elim o [ inl l ↦ omega arith | inr l ↦ absurd (b.2 i l h) ] ]);
+                        least = λ i h. (
+                          omega arith,
+                          elim (cases_order k i) [
+                            | inl e ↦ omega arith
+                            | inr o ↦ elim o [ inl l ↦ omega arith | inr l ↦ absurd (b.2 i l h) ]
+                          ],
+                        );
                       })),
                       omega arith,
                       ap (put_under root c k) q ∙ top ∙ sym own' ∙ ap (put_under root c k) (sym z),
@@ -133,15 +159,19 @@ module _ (joined : ℕ → ℕ → Bool) (pattern : IsAdjacency joined) where
                   ],
                 )
               ];
-              fresh = λ x le. let f = way.fresh x le in
-                  (others_p x (omega arith) ∙ f.0, others_j x (omega arith) ∙ f.1, put_under_not root c k x (λ r. let s = sym f.2 ∙ r in omega arith) ∙ f.2);
+              fresh = λ x le. let f = way.fresh x le in (
+                others_p x (omega arith) ∙ f.0,
+                others_j x (omega arith) ∙ f.1,
+                put_under_not root c k x (λ r. let s = sym f.2 ∙ r in omega arith) ∙ f.2,
+              );
             },
             put_under_same root c k start c (sym way.same) ∙ top,
             λ x e. put_under_not root c k x (λ q. let r = sym e ∙ q in omega arith) ∙ e,
           )
 
     -- once each earlier neighbour of k is below k, so is each column that reaches k
-    pub complete : IsGrown joined k root parent ancestor → ((i : ℕ) → i < k → IsTrue (joined i k) → root i ≡ k) → (n c : ℕ) → c < n → c < k → Reaches joined c k → root c ≡ k
+    pub complete : IsGrown joined k root parent ancestor → ((i : ℕ) → i < k → IsTrue (joined i k) → root i ≡ k)
+        → (n c : ℕ) → c < n → c < k → Reaches joined c k → root c ≡ k
     complete l done zero c lt b h = absurd (omega arith)
     complete l done (suc n) c lt b h =
         elim ((reaches_by_children joined pattern c k).0 h) [
@@ -165,7 +195,8 @@ module _ (joined : ℕ → ℕ → Bool) (pattern : IsAdjacency joined) where
         ]
 
     -- on to the next column
-    pub next_column : IsGrown joined k root parent ancestor → ((i : ℕ) → i < k → IsTrue (joined i k) → root i ≡ k) → IsGrown joined (suc k) root parent ancestor
+    pub next_column : IsGrown joined k root parent ancestor
+        → ((i : ℕ) → i < k → IsTrue (joined i k) → root i ≡ k) → IsGrown joined (suc k) root parent ancestor
     next_column l done = record {
       bare = λ x lt e. elim (cases_eq x k) [
         | inl q ↦ let f = l.fresh x (omega arith) in (f.2, f.1, λ i below h. let w = reaches_later joined pattern x i h in omega arith)

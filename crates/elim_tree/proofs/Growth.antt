@@ -1,5 +1,6 @@
 -- The forest grows by the rows of a pattern, and ends as the list of all parents.
-use Rattle.std.proofs.Common.{sym, ◌∙◌, subst, ap, ◌≡◌, inl, inr, refl, ℕ, zero, suc, ◌<◌, ◌≤◌, Bool, true, IsTrue, ◌==◌, List, [], ◌∷◌, length, get_or, arith, slice_index}
+use Rattle.std.proofs.Common.{sym, ◌∙◌, subst, ap, ◌≡◌, inl, inr, refl, ℕ, zero, suc, ◌<◌, ◌≤◌, Bool}
+use Rattle.std.proofs.Common.{true, IsTrue, ◌==◌, List, [], ◌∷◌, length, get_or, arith, slice_index}
 use Rattle.std.proofs.lemmas.Bool.{or_cases, eqb-true, eq-eqb, both_ways, cases_order, cases_lt}
 use Rattle.std.proofs.lemmas.List.{get_or_past, ext_get_or}
 use Rattle.std.proofs.lemmas.Grind.{get_or_after_one}
@@ -61,7 +62,8 @@ pattern_renumbered joined order pattern = record {
   none_of_0 = λ b h. pattern.none_of_0 (vertex_at order b) h;
 }
 
-pub within_renumbered : (m n : ℕ) (joined : ℕ → ℕ → Bool) (order : List ℕ) → IsWithin m joined → length order ≡ n → IsWithin n (renumbered joined order)
+pub within_renumbered : (m n : ℕ) (joined : ℕ → ℕ → Bool) (order : List ℕ)
+    → IsWithin m joined → length order ≡ n → IsWithin n (renumbered joined order)
 within_renumbered m n joined order inside len a b h =
     let some = (inside (vertex_at order a) (vertex_at order b) h).0 in
     subst (λ k. IsVertex k a) len (vertex_within order a (omega arith))
@@ -69,11 +71,14 @@ within_renumbered m n joined order inside len a b h =
 pub pattern_by_columns : (rows : List (List ℕ)) (order : List ℕ) → IsPattern rows → IsAdjacency (renumbered (is_joined rows) order)
 pattern_by_columns rows order pattern = pattern_renumbered (is_joined rows) order (pattern_by_rows rows pattern)
 
-pub within_by_columns : (rows : List (List ℕ)) (order : List ℕ) → IsPattern rows → IsWithin (length order) (renumbered (is_joined rows) order)
-within_by_columns rows order pattern = within_renumbered (length rows) (length order) (is_joined rows) order (within_by_rows rows pattern) refl
+pub within_by_columns : (rows : List (List ℕ)) (order : List ℕ)
+    → IsPattern rows → IsWithin (length order) (renumbered (is_joined rows) order)
+within_by_columns rows order pattern =
+    within_renumbered (length rows) (length order) (is_joined rows) order (within_by_rows rows pattern) refl
 
 module _ (rows : List (List ℕ)) (order : List ℕ) (pattern : IsPattern rows) (same : length order ≡ length rows)
-    (vertex_back : (v : ℕ) → v ≤ length order → vertex_at order (place_of order v) ≡ v) (place_back : (k : ℕ) → k ≤ length order → place_of order (vertex_at order k) ≡ k) where
+    (vertex_back : (v : ℕ) → v ≤ length order → vertex_at order (place_of order v) ≡ v)
+    (place_back : (k : ℕ) → k ≤ length order → place_of order (vertex_at order k) ≡ k) where
   by_columns : IsAdjacency (renumbered (is_joined rows) order)
   by_columns = pattern_by_columns rows order pattern
 
@@ -81,7 +86,10 @@ module _ (rows : List (List ℕ)) (order : List ℕ) (pattern : IsPattern rows) 
   inside = within_by_columns rows order pattern
 
   pub vertex_in_row : (v j : ℕ) → j < length (neighbours_of rows v) → slice_index (neighbours_of rows v) j ≤ length order
-  vertex_in_row v j lt = let low = (pattern.inside v (slice_index (neighbours_of rows v) j) (is_in (neighbours_of rows v) (slice_index (neighbours_of rows v) j) j lt refl)).1 in omega arith
+  vertex_in_row v j lt = let low =
+      (pattern.inside v (slice_index (neighbours_of rows v) j)
+      (is_in (neighbours_of rows v) (slice_index (neighbours_of rows v) j) j lt refl)).1 in
+      omega arith
 
   -- the earlier ones among the row of the k-th vertex are joined to column k
   row_reaches : (k : ℕ) (row : List ℕ) → row ≡ neighbours_of rows (vertex_at order k) → (j : ℕ) → j < length row → column_in row order j < k
@@ -93,7 +101,8 @@ module _ (rows : List (List ℕ)) (order : List ℕ) (pattern : IsPattern rows) 
       let small : v ≤ length order = subst (λ xs. slice_index xs j ≤ length order) (sym e) (vertex_in_row (vertex_at order k) j lt') in
       let back : vertex_at order (place_of order v) ≡ v = vertex_back v small in
       from_pattern (renumbered (is_joined rows) order) by_columns (place_of order v) k
-      (pattern.symmetric (vertex_at order k) (vertex_at order (place_of order v)) (subst (λ x. has (neighbours_of rows (vertex_at order k)) x ≡ true) (sym back) there)) below
+      (pattern.symmetric (vertex_at order k) (vertex_at order (place_of order v))
+      (subst (λ x. has (neighbours_of rows (vertex_at order k)) x ≡ true) (sym back) there)) below
 
   -- .. and they are all that are joined to it
   row_has : (k : ℕ) (row : List ℕ) → row ≡ neighbours_of rows (vertex_at order k) → (i : ℕ) → IsTrue (renumbered (is_joined rows) order i k)
@@ -121,19 +130,22 @@ module _ (rows : List (List ℕ)) (order : List ℕ) (pattern : IsPattern rows) 
         ap t.0 (sym is) ∙ t.2 f.0 lt (omega arith)),
   )
 
-  pub grown_firsts : (k : ℕ) → length order < k → (root : ℕ → ℕ) (parents ancestors : List ℕ) → IsGrown (renumbered (is_joined rows) order) k root (slice_index parents) (slice_index ancestors)
+  pub grown_firsts : (k : ℕ) → length order < k → (root : ℕ → ℕ) (parents ancestors : List ℕ)
+      → IsGrown (renumbered (is_joined rows) order) k root (slice_index parents) (slice_index ancestors)
       → (j : ℕ) → j ≤ length order → IsFirstReached (renumbered (is_joined rows) order) j (slice_index parents j)
   grown_firsts k past root parents ancestors grown j le =
       elim (cases_order (slice_index parents j) 0) [
         | inl none ↦ record {
           reached = λ some. absurd (omega arith);
-          least = λ i h. absurd ((grown.bare j (omega arith) none).2 i (let w = row_within (renumbered (is_joined rows) order) by_columns (length order) inside j i h in omega arith) h);
+          least = λ i h. absurd ((grown.bare j (omega arith) none).2 i
+              (let w = row_within (renumbered (is_joined rows) order) by_columns (length order) inside j i h in omega arith) h);
         }
         | inr o ↦ elim o [ inl w ↦ absurd (omega arith) | inr some ↦ (grown.tied j (omega arith) some).0 ]
       ]
 
 -- before the first column the forest is bare
-pub first_column : (joined : ℕ → ℕ → Bool) → IsAdjacency joined → (parents ancestors : List ℕ) → ((x : ℕ) → (slice_index parents x ≡ 0) × (slice_index ancestors x ≡ 0))
+pub first_column : (joined : ℕ → ℕ → Bool) → IsAdjacency joined → (parents ancestors : List ℕ)
+    → ((x : ℕ) → (slice_index parents x ≡ 0) × (slice_index ancestors x ≡ 0))
     → IsGrown joined 1 (λ x. x) (slice_index parents) (slice_index ancestors)
 first_column joined pattern parents ancestors clear = record {
   bare = λ x lt e. (refl, (clear x).1, λ i below h. let w = reaches_later joined pattern x i h in omega arith);
@@ -152,7 +164,8 @@ module _ (parents_are_first : ParentsAreFirst) (joined : ℕ → ℕ → Bool) (
         | inl e ↦ e
         | inr o ↦ elim o [
           | inl w ↦ absurd (omega arith)
-          | inr some ↦ let v = (column_within joined pattern n inside 0 (slice_index table 0) ((firsts 0 (omega arith)).reached some)).0 in absurd (omega arith)
+          | inr some ↦ let v = (column_within joined pattern n inside 0 (slice_index table 0) ((firsts 0 (omega arith)).reached some)).0 in
+              absurd (omega arith)
         ]
       ]
 
@@ -167,11 +180,13 @@ module _ (parents_are_first : ParentsAreFirst) (joined : ℕ → ℕ → Bool) (
       length_in (x ∷ xs) e = omega arith
 
   pub are_parents : parents_in table ≡ parents_of joined n
-  are_parents = ext_get_or 0 (parents_in table) (parents_of joined n) (length_parents ∙ sym (length-map-range_with_len (parent_of joined n) 1 n))
+  are_parents =
+      ext_get_or 0 (parents_in table) (parents_of joined n) (length_parents ∙ sym (length-map-range_with_len (parent_of joined n) 1 n))
       (λ i lt.
       let small : i < n = subst (λ m. i < m) length_parents lt in
       let first = firsts (suc i) (omega arith) in
-      let one : get_or (parents_in table) i 0 ≡ slice_index table (suc i) = get_or_after_one table i 0 ∙ ap (λ k. get_or table k 0) (omega arith) in
+      let one : get_or (parents_in table) i 0 ≡ slice_index table (suc i) =
+      get_or_after_one table i 0 ∙ ap (λ k. get_or table k 0) (omega arith) in
       one ∙ sym (parent_is_first parents_are_first joined pattern n inside (suc i) (slice_index table (suc i)) first)
       ∙ sym (get_or-map-range_with_len (parent_of joined n) 1 n i (suc i) 0 small (omega arith)))
 
@@ -186,10 +201,12 @@ module _ (parents_are_first : ParentsAreFirst) (joined : ℕ → ℕ → Bool) (
     };
   }
     where
-      rise : (j : ℕ) → 0 < parent_at (parents_in table) j → (j < parent_at (parents_in table) j) × (parent_at (parents_in table) j ≤ length (parents_in table))
+      rise : (j : ℕ) → 0 < parent_at (parents_in table) j
+          → (j < parent_at (parents_in table) j) × (parent_at (parents_in table) j ≤ length (parents_in table))
       rise zero have = absurd (omega arith)
       rise (suc i) have =
-          let one : get_or (parents_in table) i 0 ≡ slice_index table (suc i) = get_or_after_one table i 0 ∙ ap (λ k. get_or table k 0) (omega arith) in
+          let one : get_or (parents_in table) i 0 ≡ slice_index table (suc i) =
+          get_or_after_one table i 0 ∙ ap (λ k. get_or table k 0) (omega arith) in
           elim (cases_lt n (suc i)) [
             | inl past ↦ let none : slice_index table (suc i) ≡ 0 = get_or_past table (suc i) 0 (omega arith) in absurd (omega arith)
             | inr le ↦

@@ -21,9 +21,11 @@ vertex_of n order perm zero v = absurd (let some = v.0 in omega arith)
 vertex_of n order perm (suc i) v = let len = perm.len in let le = v.1 in perm.vertices i 0 (omega arith)
 
 -- two lists with the same at each place are one
-pub same_list : (xs ys : List ℕ) (n : ℕ) → length xs ≡ n → length ys ≡ n → ((k : ℕ) → IsVertex n k → vertex_at xs k ≡ vertex_at ys k) → xs ≡ ys
+pub same_list : (xs ys : List ℕ) (n : ℕ) → length xs ≡ n → length ys ≡ n
+    → ((k : ℕ) → IsVertex n k → vertex_at xs k ≡ vertex_at ys k) → xs ≡ ys
 same_list xs ys n lx ly same =
-    fill_by_all (λ k. get_or xs k 0) xs n 0 lx (λ k lt. refl) ∙ sym (fill_by_all (λ k. get_or xs k 0) ys n 0 ly (λ k lt. sym (same (suc k) (omega arith, omega arith))))
+    fill_by_all (λ k. get_or xs k 0) xs n 0 lx (λ k lt. refl)
+    ∙ sym (fill_by_all (λ k. get_or xs k 0) ys n 0 ly (λ k lt. sym (same (suc k) (omega arith, omega arith))))
 
 module _ (vertices_back : VerticesAreInverse) (places_back : PlacesAreInverse) where
   -- the place of a vertex is one of n
@@ -42,20 +44,28 @@ module _ (vertices_back : VerticesAreInverse) (places_back : PlacesAreInverse) w
         let next = places_back (length parents) one po.perm (suc k) le in
         let a = vertex_of (length parents) one po.perm k (omega arith, omega arith) in
         let b = vertex_of (length parents) one po.perm (suc k) (omega arith, le) in
-        elim (total parents forest (vertex_at one k) (vertex_at one (suc k)) a b (λ e. let same = ap (place_of one) e in absurd (omega arith))) [
+        elim (total parents forest (vertex_at one k) (vertex_at one (suc k)) a b
+        (λ e. let same = ap (place_of one) e in absurd (omega arith))) [
           | inl x ↦ pt.before (vertex_at one k) (vertex_at one (suc k)) a b x
           | inr x ↦ let less = po.before (vertex_at one (suc k)) (vertex_at one k) b a x in absurd (omega arith)
         ]
 
-    not_before : (one two : List ℕ) → IsPostorder parents one → IsPostorder parents two → (k : ℕ) → k ≤ length parents → k ≤ place_of two (vertex_at one k)
+    not_before : (one two : List ℕ) → IsPostorder parents one → IsPostorder parents two
+        → (k : ℕ) → k ≤ length parents → k ≤ place_of two (vertex_at one k)
     not_before one two po pt zero le = omega arith
     not_before one two po pt (suc k) le =
         elim (cases_eq k 0) [
-          | inl e ↦ let some = (place_within (length parents) two pt.perm (vertex_at one (suc k)) (vertex_of (length parents) one po.perm (suc k) (omega arith, le))).0 in omega arith
-          | inr ne ↦ let before = not_before one two po pt k (omega arith) in let more = rises one two po pt k (omega arith) le in omega arith
+          | inl e ↦ let some =
+              (place_within (length parents) two pt.perm (vertex_at one (suc k))
+              (vertex_of (length parents) one po.perm (suc k) (omega arith, le))).0 in
+              omega arith
+          | inr ne ↦ let before = not_before one two po pt k (omega arith) in
+              let more = rises one two po pt k (omega arith) le in
+              omega arith
         ]
 
-    same_at : (one two : List ℕ) → IsPostorder parents one → IsPostorder parents two → (k : ℕ) → IsVertex (length parents) k → vertex_at one k ≡ vertex_at two k
+    same_at : (one two : List ℕ) → IsPostorder parents one → IsPostorder parents two
+        → (k : ℕ) → IsVertex (length parents) k → vertex_at one k ≡ vertex_at two k
     same_at one two po pt k v =
         let a = vertex_of (length parents) one po.perm k v in
         let back = vertices_back (length parents) two pt.perm (vertex_at one k) a.1 in

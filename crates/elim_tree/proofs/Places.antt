@@ -1,5 +1,6 @@
 -- The places that the two passes give are a postorder: spans are nested or apart, and fill all places.
-use Rattle.std.proofs.Common.{sym, ◌∙◌, subst, ap, ◌+◌, ◌-◌, ◌≡◌, ◌≢◌, inl, inr, ℕ, zero, suc, ◌<◌, ◌≤◌, List, length, arith, refl, cond, ◌==◌, slice_index}
+use Rattle.std.proofs.Common.{sym, ◌∙◌, subst, ap, ◌+◌, ◌-◌, ◌≡◌, ◌≢◌, inl, inr, ℕ, zero, suc}
+use Rattle.std.proofs.Common.{◌<◌, ◌≤◌, List, length, arith, refl, cond, ◌==◌, slice_index}
 use Rattle.std.proofs.lemmas.Bool.{cases_eq, cases_lt, cond-true, cond-false, eq-eqb, ne_eqb}
 use Rattle.limits.specs.Limits.{most_order}
 use Rattle.permutations.specs.Perm.{IsVertex, IsPerm, place_of}
@@ -39,7 +40,8 @@ module _ (parents : List ℕ) (forest : IsForest parents) (n : ℕ) (len : n ≡
   sizes x pos lt = counted.sizes x lt ∙ children_all n (parent_at parents) many x n rising pos (omega arith)
 
   -- the span of a child lies in its parent's, before the parent itself
-  inner : (c : ℕ) → 0 < c → c < n → 0 < parent_at parents c → (start (parent_at parents c) ≤ start c) × (start c + many c < start (parent_at parents c) + many (parent_at parents c))
+  inner : (c : ℕ) → 0 < c → c < n → 0 < parent_at parents c
+      → (start (parent_at parents c) ≤ start c) × (start c + many c < start (parent_at parents c) + many (parent_at parents c))
   inner c pos lt up =
       let f = rising c up in
       let s = placed.begins c pos lt in
@@ -96,7 +98,8 @@ module _ (parents : List ℕ) (forest : IsForest parents) (n : ℕ) (len : n ≡
       omega arith
 
   -- every place of the span of x is the place of something below x
-  taken_in : (m x k : ℕ) → x < m → 0 < x → x < n → start x < k → k ≤ start x + many x + 1 → (y : ℕ) × (0 < y) × (y < n) × (start y + many y + 1 ≡ k)
+  taken_in : (m x k : ℕ) → x < m → 0 < x → x < n → start x < k
+      → k ≤ start x + many x + 1 → (y : ℕ) × (0 < y) × (y < n) × (start y + many y + 1 ≡ k)
   taken_in zero x k xm pos lt low high = absurd (omega arith)
   taken_in (suc m) x k xm pos lt low high =
       elim (cases_eq k (start x + many x + 1)) [
@@ -121,7 +124,8 @@ module _ (parents : List ℕ) (forest : IsForest parents) (n : ℕ) (len : n ≡
   low (suc m) x le pos lt =
       elim (cases_eq (parent_at parents x) 0) [
         | inl e ↦
-            let s : start x ≡ start 0 + in_children (parent_at parents) many 0 x = subst (λ v. start x ≡ start v + in_children (parent_at parents) many v x) e (placed.begins x pos lt) in
+            let s : start x ≡ start 0 + in_children (parent_at parents) many 0 x =
+            subst (λ v. start x ≡ start v + in_children (parent_at parents) many v x) e (placed.begins x pos lt) in
             let y = children_yes (parent_at parents) many 0 x pos e in
             let t = children_to (parent_at parents) many 0 (suc x) n lt in
             let whole = all_in in
@@ -144,7 +148,8 @@ module _ (parents : List ℕ) (forest : IsForest parents) (n : ℕ) (len : n ≡
       let f = locate (parent_at parents) many 0 n k pos (omega arith) in
       let lo = f.4 in
       let hi = f.5 in
-      let s : start f.0 ≡ start 0 + in_children (parent_at parents) many 0 f.0 = subst (λ v. start f.0 ≡ start v + in_children (parent_at parents) many v f.0) f.3 (placed.begins f.0 f.1 f.2) in
+      let s : start f.0 ≡ start 0 + in_children (parent_at parents) many 0 f.0 =
+      subst (λ v. start f.0 ≡ start v + in_children (parent_at parents) many v f.0) f.3 (placed.begins f.0 f.1 f.2) in
       let zero_start = placed.first in
       let there = taken_in (suc f.0) f.0 k (omega arith) f.1 f.2 (omega arith) (omega arith) in
       (there.0, there.2, ended there.0 k there.1 there.2 there.3)
@@ -197,23 +202,31 @@ module _ (table : List ℕ) (is : IsParentTable table) where
       let most = parent_within (parents_in table) is.forest x in
       omega arith
 
-  module _ (many before start place : ℕ → ℕ) (counted : AreSpanSizes (length table) (slice_index table) many before) (j : ℕ) (done : j ≤ 1) (from : IsPlacedFrom j (length table) (slice_index table) many before start place) where
+  module _ (many before start place : ℕ → ℕ) (counted : AreSpanSizes (length table) (slice_index table) many before)
+      (j : ℕ) (done : j ≤ 1) (from : IsPlacedFrom j (length table) (slice_index table) many before start place) where
     here_counted : AreSpanSizes (length table) (parent_at (parents_in table)) many before
     here_counted = subst (λ parent. AreSpanSizes (length table) parent many before) table_is counted
 
     here_placed : IsPlaced (length table) (parent_at (parents_in table)) many start place
-    here_placed = subst (λ parent. IsPlaced (length table) parent many start place) table_is (placed_all (length table) (slice_index table) many before table_rising counted j start place done from)
+    here_placed = subst (λ parent. IsPlaced (length table) parent many start place) table_is
+        (placed_all (length table) (slice_index table) many before table_rising counted j start place done from)
 
     pub table_places : ArePlaces (length table) place
-    table_places = are_places (parents_in table) is.forest (length table) (length_of_table table is) many before start place here_counted here_placed
+    table_places =
+        are_places (parents_in table) is.forest (length table) (length_of_table table is) many before start place here_counted here_placed
 
-    pub table_before : (a b : ℕ) → IsVertex (length (parents_in table)) a → IsVertex (length (parents_in table)) b → Precedes (parents_in table) a b → place a < place b
-    table_before = places_before (parents_in table) is.forest (length table) (length_of_table table is) many before start place here_counted here_placed
+    pub table_before : (a b : ℕ) → IsVertex (length (parents_in table)) a
+        → IsVertex (length (parents_in table)) b → Precedes (parents_in table) a b → place a < place b
+    table_before = places_before (parents_in table) is.forest (length table)
+        (length_of_table table is) many before start place here_counted here_placed
 
 -- what was written through a slice is the whole table
 
-pub is_postorder : (parents order places : List ℕ) → IsPerm (length order) order → length order ≡ length parents → ((v : ℕ) → place_of order v ≡ slice_index places v)
-    → ((a b : ℕ) → IsVertex (length parents) a → IsVertex (length parents) b → Precedes parents a b → slice_index places a < slice_index places b) → IsPostorder parents order
+pub is_postorder : (parents order places : List ℕ) → IsPerm (length order) order
+    → length order ≡ length parents → ((v : ℕ) → place_of order v ≡ slice_index places v)
+    → ((a b : ℕ) → IsVertex (length parents) a → IsVertex (length parents) b
+    → Precedes parents a b → slice_index places a < slice_index places b)
+    → IsPostorder parents order
 is_postorder parents order places perm len same before = record {
   perm = subst (λ n. IsPerm n order) len perm;
   before = λ a b va vb h. (let less = before a b va vb h in let pa = same a in let pb = same b in omega arith);

@@ -10,7 +10,8 @@ above_trans self q = q
 above_trans (step some p) q = step some (above_trans p q)
 
 -- the child of x on the way up from y
-pub child_on : {parents : List ℕ} {y x : ℕ} → IsAbove parents y x → y ≢ x → 0 < y → (c : ℕ) × IsAbove parents y c × (parent_at parents c ≡ x) × (0 < c)
+pub child_on : {parents : List ℕ} {y x : ℕ} → IsAbove parents y x → y ≢ x
+    → 0 < y → (c : ℕ) × IsAbove parents y c × (parent_at parents c ≡ x) × (0 < c)
 child_on self ne pos = absurd (ne refl)
 child_on {parents} {y} {x} (step some q) ne pos =
     elim (cases_eq (parent_at parents y) x) [
@@ -25,19 +26,23 @@ module _ (parents : List ℕ) (forest : IsForest parents) where
   above_within {a} (step some q) le = let f = forest.rising a some in let r = above_within q f.1 in (omega arith, r.1)
 
   -- the root above a column
-  root_of : (m a : ℕ) → length parents < a + m → 0 < a → a ≤ length parents → (r : ℕ) × IsAbove parents a r × (parent_at parents r ≡ 0) × (0 < r)
+  root_of : (m a : ℕ) → length parents < a + m → 0 < a → a ≤ length parents
+      → (r : ℕ) × IsAbove parents a r × (parent_at parents r ≡ 0) × (0 < r)
   root_of zero a lt pos le = absurd (omega arith)
   root_of (suc m) a lt pos le =
       elim (cases_eq (parent_at parents a) 0) [
         | inl e ↦ (a, self, e, pos)
-        | inr ne ↦ let f = forest.rising a (omega arith) in let r = root_of m (parent_at parents a) (omega arith) (omega arith) f.1 in (r.0, step (omega arith) r.1, r.2, r.3)
+        | inr ne ↦ let f = forest.rising a (omega arith) in
+            let r = root_of m (parent_at parents a) (omega arith) (omega arith) f.1 in
+            (r.0, step (omega arith) r.1, r.2, r.3)
       ]
 
   first : (a b : ℕ) → Precedes parents (parent_at parents a) b → 0 < parent_at parents a → a < b → Precedes parents a b
   first a b (below q ne) up lt = below (step up q) (omega arith)
   first a b (beside p q l e) up lt = beside (step up p) q l e
 
-  after : (a p b : ℕ) → Precedes parents b p → p ≡ parent_at parents a → 0 < parent_at parents a → a < b → b ≤ length parents → parent_at parents a ≢ b → Precedes parents a b ⊎ Precedes parents b a
+  after : (a p b : ℕ) → Precedes parents b p → p ≡ parent_at parents a → 0 < parent_at parents a
+      → a < b → b ≤ length parents → parent_at parents a ≢ b → Precedes parents a b ⊎ Precedes parents b a
   after a p b (below q ne) e up lt bn nb =
       let c = child_on q ne (omega arith) in
       elim (cases_order a c.0) [
@@ -50,7 +55,9 @@ module _ (parents : List ℕ) (forest : IsForest parents) where
   after a p b (beside {d = d} q r l z) e up lt bn nb = inr (beside q (step up (subst (λ v. IsAbove parents v d) e r)) l z)
 
   -- from the parent of the lower of two columns to that column
-  rise : (a b : ℕ) → 0 < a → a < b → b ≤ length parents → ((p : ℕ) → a < p → p ≤ length parents → p ≢ b → Precedes parents p b ⊎ Precedes parents b p) → Precedes parents a b ⊎ Precedes parents b a
+  rise : (a b : ℕ) → 0 < a → a < b → b ≤ length parents
+      → ((p : ℕ) → a < p → p ≤ length parents → p ≢ b → Precedes parents p b ⊎ Precedes parents b p)
+      → Precedes parents a b ⊎ Precedes parents b a
   rise a b pos lt bn next =
       elim (cases_eq (parent_at parents a) 0) [
         | inl e ↦
@@ -70,19 +77,24 @@ module _ (parents : List ℕ) (forest : IsForest parents) where
       ]
 
   -- of two columns one comes before the other
-  in_turn : (m a b : ℕ) → length parents + length parents < a + b + m → 0 < a → a ≤ length parents → 0 < b → b ≤ length parents → a ≢ b → Precedes parents a b ⊎ Precedes parents b a
+  in_turn : (m a b : ℕ) → length parents + length parents < a + b + m → 0 < a → a ≤ length parents
+      → 0 < b → b ≤ length parents → a ≢ b → Precedes parents a b ⊎ Precedes parents b a
   in_turn zero a b lt pa an pb bn ne = absurd (omega arith)
   in_turn (suc m) a b lt pa an pb bn ne =
       elim (cases_order a b) [
         | inl e ↦ absurd (ne e)
         | inr o ↦ elim o [
           | inl l ↦ rise a b pa l bn (λ p ap pn pb'. in_turn m p b (omega arith) (omega arith) pn pb bn pb')
-          | inr l ↦ elim (rise b a pb l an (λ p bp pn pa'. in_turn m p a (omega arith) (omega arith) pn pa an pa')) [ inl x ↦ inr x | inr x ↦ inl x ]
+          | inr l ↦
+              elim (rise b a pb l an
+              (λ p bp pn pa'. in_turn m p a (omega arith) (omega arith) pn pa an pa')) [ inl x ↦ inr x | inr x ↦ inl x ]
         ]
       ]
 
   pub total : (a b : ℕ) → IsVertex (length parents) a → IsVertex (length parents) b → a ≢ b → Precedes parents a b ⊎ Precedes parents b a
-  total a b va vb ne = let la = va.0 in let lb = vb.0 in in_turn (length parents + length parents) a b (omega arith) (omega arith) va.1 (omega arith) vb.1 ne
+  total a b va vb ne = let la = va.0 in
+      let lb = vb.0 in
+      in_turn (length parents + length parents) a b (omega arith) (omega arith) va.1 (omega arith) vb.1 ne
 
   module _ (place : ℕ → ℕ)
       (before : (a b : ℕ) → IsVertex (length parents) a → IsVertex (length parents) b → Precedes parents a b → place a < place b) where
@@ -97,12 +109,14 @@ module _ (parents : List ℕ) (forest : IsForest parents) where
           ]
         ]
 
-    stands : (y z x : ℕ) → IsVertex (length parents) y → IsVertex (length parents) z → IsAbove parents y x → place y ≤ place z → Precedes parents z x → IsAbove parents z x
+    stands : (y z x : ℕ) → IsVertex (length parents) y → IsVertex (length parents) z
+        → IsAbove parents y x → place y ≤ place z → Precedes parents z x → IsAbove parents z x
     stands y z x vy vz up lo (below q ne) = q
     stands y z x vy vz up lo (beside p q l e) = let k = before z y vz vy (beside p (above_trans up q) l e) in absurd (omega arith)
 
     -- whoever stands between a column and one above it is below that one too
-    pub between : (y z x : ℕ) → IsVertex (length parents) y → IsVertex (length parents) z → IsAbove parents y x → place y ≤ place z → place z ≤ place x → IsAbove parents z x
+    pub between : (y z x : ℕ) → IsVertex (length parents) y → IsVertex (length parents) z
+        → IsAbove parents y x → place y ≤ place z → place z ≤ place x → IsAbove parents z x
     between y z x vy vz up lo hi =
         let within = above_within up vy.1 in
         let some = vy.0 in

@@ -1,5 +1,6 @@
 -- What stands in tables along a new order, and that parents carried over are numbered in postorder.
-use Rattle.std.proofs.Common.{sym, ◌∙◌, subst, ap, ◌+◌, ◌≡◌, inl, inr, ℕ, zero, suc, ◌<◌, ◌≤◌, Bool, List, [], ◌∷◌, ◌++◌, length, get_or, map, drop, add-one, arith, refl}
+use Rattle.std.proofs.Common.{sym, ◌∙◌, subst, ap, ◌+◌, ◌≡◌, inl, inr, ℕ, zero, suc, ◌<◌, ◌≤◌, Bool}
+use Rattle.std.proofs.Common.{List, [], ◌∷◌, ◌++◌, length, get_or, map, drop, add-one, arith, refl}
 use Rattle.std.specs.List.{range_with_len}
 use Rattle.std.proofs.lemmas.Bool.{cases_eq, cases_lt}
 use Rattle.std.proofs.lemmas.List.{get_or-map, get_or_past, length-map}
@@ -14,9 +15,11 @@ use Rattle.elim_tree.proofs.Postorderings.{above_within, between}
 use Rattle.elim_tree.proofs.OnePostorder.{VerticesAreInverse, PlacesAreInverse, vertex_of, place_within, same_list}
 
 -- one element more of a table
-pub pushed : (f : ℕ → ℕ) (table more : List ℕ) (k x : ℕ) → more ≡ table ++ x ∷ [] → x ≡ f k → table ≡ map f (range_with_len 0 k) → more ≡ map f (range_with_len 0 (k + 1))
+pub pushed : (f : ℕ → ℕ) (table more : List ℕ) (k x : ℕ) → more ≡ table ++ x ∷ []
+    → x ≡ f k → table ≡ map f (range_with_len 0 k) → more ≡ map f (range_with_len 0 (k + 1))
 pushed f table more k x e value before =
-    e ∙ ap (λ (y : ℕ). table ++ y ∷ []) value ∙ ap (λ (xs : List ℕ). xs ++ f k ∷ []) before ∙ sym (map-range_with_len_more f 0 k k (omega arith))
+    e ∙ ap (λ (y : ℕ). table ++ y ∷ []) value ∙ ap (λ (xs : List ℕ). xs ++ f k ∷ []) before
+    ∙ sym (map-range_with_len_more f 0 k k (omega arith))
 
 -- what a table has at a column
 pub table_at : (f : ℕ → ℕ) (table : List ℕ) (n k : ℕ) → table ≡ map f (range_with_len 0 (n + 1)) → k ≤ n → get_or table k 0 ≡ f k
@@ -26,16 +29,19 @@ pub table_long : (f : ℕ → ℕ) (table : List ℕ) (n : ℕ) → table ≡ ma
 table_long f table n e = ap length e ∙ length-map-range_with_len f 0 (n + 1)
 
 -- without its place 0 it is a map along the order
-pub table_along : (h : ℕ → ℕ) (order table : List ℕ) (n : ℕ) → length order ≡ n → table ≡ map (λ k. h (vertex_at order k)) (range_with_len 0 (n + 1)) → drop 1 table ≡ map h order
+pub table_along : (h : ℕ → ℕ) (order table : List ℕ) (n : ℕ) → length order ≡ n
+    → table ≡ map (λ k. h (vertex_at order k)) (range_with_len 0 (n + 1)) → drop 1 table ≡ map h order
 table_along h order table n len e =
     ap (drop 1) (e ∙ ap (λ m. map (λ k. h (vertex_at order k)) (range_with_len 0 m)) (add-one n))
-    ∙ same_list (map (λ k. h (vertex_at order k)) (range_with_len 1 n)) (map h order) n (length-map-range_with_len (λ k. h (vertex_at order k)) 1 n) (length-map order h ∙ len) at_each
+    ∙ same_list (map (λ k. h (vertex_at order k)) (range_with_len 1 n)) (map h order) n
+    (length-map-range_with_len (λ k. h (vertex_at order k)) 1 n) (length-map order h ∙ len) at_each
   where
     at_each : (k : ℕ) → IsVertex n k → vertex_at (map (λ k. h (vertex_at order k)) (range_with_len 1 n)) k ≡ vertex_at (map h order) k
     at_each zero vk = absurd (let some = vk.0 in omega arith)
     at_each (suc i) vk =
         let le = vk.1 in
-        get_or-map-range_with_len (λ k. h (vertex_at order k)) 1 n i (suc i) 0 (omega arith) (omega arith) ∙ sym (get_or-map h order i 0 0 (omega arith))
+        get_or-map-range_with_len (λ k. h (vertex_at order k)) 1 n i (suc i) 0 (omega arith) (omega arith)
+        ∙ sym (get_or-map h order i 0 0 (omega arith))
 
 -- no vertex stands beyond the last place
 pub none_beyond : (order : List ℕ) (k : ℕ) → length order < k → vertex_at order k ≡ 0
@@ -54,14 +60,16 @@ vertex_along perm post (suc i) =
     ]
 
 -- so a pattern along it is the pattern that was renumbered, renumbered again
-pub renumbered_along : (joined : ℕ → ℕ → Bool) (perm post : List ℕ) → renumbered joined (map (vertex_at perm) post) ≡ renumbered (renumbered joined perm) post
+pub renumbered_along : (joined : ℕ → ℕ → Bool) (perm post : List ℕ)
+    → renumbered joined (map (vertex_at perm) post) ≡ renumbered (renumbered joined perm) post
 renumbered_along joined perm post = λ i. λ a b. joined (vertex_along perm post a i) (vertex_along perm post b i)
 
 module _ (vertices_back : VerticesAreInverse) (places_back : PlacesAreInverse) where
   -- ---- orders
 
   pub tables_along : (n : ℕ) (perm post vertices places : List ℕ) → IsPerm n perm → IsPerm n post
-      → vertices ≡ map (λ k. vertex_at perm (vertex_at post k)) (range_with_len 0 (n + 1)) → places ≡ map (λ v. place_of post (place_of perm v)) (range_with_len 0 (n + 1)) → AreInverse vertices places
+      → vertices ≡ map (λ k. vertex_at perm (vertex_at post k)) (range_with_len 0 (n + 1))
+      → places ≡ map (λ v. place_of post (place_of perm v)) (range_with_len 0 (n + 1)) → AreInverse vertices places
   tables_along n perm post vertices places is_perm is_post e f =
       let long = table_long (λ k. vertex_at perm (vertex_at post k)) vertices n e in
       let long' = table_long (λ v. place_of post (place_of perm v)) places n f in
@@ -75,7 +83,8 @@ module _ (vertices_back : VerticesAreInverse) (places_back : PlacesAreInverse) w
             let high = vertex_le perm is_perm (vertex_at post k) mid in
             let here = table_at (λ k. vertex_at perm (vertex_at post k)) vertices n k e le in (
               omega arith,
-              ap (λ v. get_or places v 0) here ∙ table_at (λ v. place_of post (place_of perm v)) places n (vertex_at perm (vertex_at post k)) f high
+              ap (λ v. get_or places v 0) here
+                  ∙ table_at (λ v. place_of post (place_of perm v)) places n (vertex_at perm (vertex_at post k)) f high
                   ∙ ap (place_of post) (places_back n perm is_perm (vertex_at post k) mid) ∙ places_back n post is_post k le,
             );
         place = λ v lt.
@@ -84,13 +93,17 @@ module _ (vertices_back : VerticesAreInverse) (places_back : PlacesAreInverse) w
             let high = place_le post is_post (place_of perm v) mid in
             let here = table_at (λ v. place_of post (place_of perm v)) places n v f le in (
               omega arith,
-              ap (λ k. get_or vertices k 0) here ∙ table_at (λ k. vertex_at perm (vertex_at post k)) vertices n (place_of post (place_of perm v)) e high
+              ap (λ k. get_or vertices k 0) here
+                  ∙ table_at (λ k. vertex_at perm (vertex_at post k)) vertices n (place_of post (place_of perm v)) e high
                   ∙ ap (vertex_at perm) (vertices_back n post is_post (place_of perm v) mid) ∙ vertices_back n perm is_perm v le,
             );
       }
     where
       vertex_le : (order : List ℕ) → IsPerm n order → (k : ℕ) → k ≤ n → vertex_at order k ≤ n
-      vertex_le order is k le = elim (cases_eq k 0) [ inl e ↦ let z = ap (vertex_at order) e in omega arith | inr ne ↦ (vertex_of n order is k (omega arith, le)).1 ]
+      vertex_le order is k le = elim (cases_eq k 0) [
+        | inl e ↦ let z = ap (vertex_at order) e in omega arith
+        | inr ne ↦ (vertex_of n order is k (omega arith, le)).1
+      ]
 
       place_le : (order : List ℕ) → IsPerm n order → (v : ℕ) → v ≤ n → place_of order v ≤ n
       place_le order is v le =
@@ -112,7 +125,8 @@ module _ (vertices_back : VerticesAreInverse) (places_back : PlacesAreInverse) w
     none = new_of 0 (omega arith)
 
     -- a list of the parents by the new numbers is a forest, numbered in postorder
-    module _ (tree : List ℕ) (long : length tree ≡ length parents) (at_each : (k : ℕ) → k ≤ length parents → parent_at tree k ≡ place_of post (parent_at parents (vertex_at post k))) where
+    module _ (tree : List ℕ) (long : length tree ≡ length parents)
+        (at_each : (k : ℕ) → k ≤ length parents → parent_at tree k ≡ place_of post (parent_at parents (vertex_at post k))) where
       column : (k : ℕ) → 0 < parent_at tree k → IsVertex (length parents) k
       column k some = subst (λ n. IsVertex n k) long (vertex_with_parent tree k some)
 
@@ -129,10 +143,12 @@ module _ (vertices_back : VerticesAreInverse) (places_back : PlacesAreInverse) w
           let v = vertex_of (length parents) post order.perm k vk in
           let up = forest.rising (vertex_at post k) (old_parent k some) in
           let vp : IsVertex (length parents) (parent_at parents (vertex_at post k)) = (let pos = old_parent k some in omega arith, up.1) in
-          let less = order.before (vertex_at post k) (parent_at parents (vertex_at post k)) v vp (below (step (old_parent k some) self) (λ e. absurd (let rise = up.0 in omega arith))) in
+          let less = order.before (vertex_at post k) (parent_at parents (vertex_at post k)) v vp
+          (below (step (old_parent k some) self) (λ e. absurd (let rise = up.0 in omega arith))) in
           let here = at_each k vk.1 in
           let back = new_of k vk.1 in
-          let within = (place_within vertices_back places_back (length parents) post order.perm (parent_at parents (vertex_at post k)) vp).1 in
+          let within =
+          (place_within vertices_back places_back (length parents) post order.perm (parent_at parents (vertex_at post k)) vp).1 in
           (omega arith, omega arith)
 
       pub tree_forest : IsForest tree
@@ -148,7 +164,8 @@ module _ (vertices_back : VerticesAreInverse) (places_back : PlacesAreInverse) w
       above_old {a} {x} (step some q) =
           let vk = column a some in
           let within = parent_within parents forest (vertex_at post a) in
-          let e : vertex_at post (parent_at tree a) ≡ parent_at parents (vertex_at post a) = ap (vertex_at post) (at_each a vk.1) ∙ old_of (parent_at parents (vertex_at post a)) within in
+          let e : vertex_at post (parent_at tree a) ≡ parent_at parents (vertex_at post a) =
+          ap (vertex_at post) (at_each a vk.1) ∙ old_of (parent_at parents (vertex_at post a)) within in
           step (old_parent a some) (subst (λ v. IsAbove parents v (vertex_at post x)) e (above_old q))
 
       -- and back
@@ -158,7 +175,8 @@ module _ (vertices_back : VerticesAreInverse) (places_back : PlacesAreInverse) w
           let within = parent_within parents forest c in
           let vc : IsVertex (length parents) c = vertex_with_parent parents c some in
           let place = (place_within vertices_back places_back (length parents) post order.perm c vc).1 in
-          let e : parent_at tree (place_of post c) ≡ place_of post (parent_at parents c) = at_each (place_of post c) place ∙ ap (λ v. place_of post (parent_at parents v)) (old_of c le) in
+          let e : parent_at tree (place_of post c) ≡ place_of post (parent_at parents c) =
+          at_each (place_of post c) place ∙ ap (λ v. place_of post (parent_at parents v)) (old_of c le) in
           let vp : IsVertex (length parents) (parent_at parents c) = (omega arith, within) in
           let pos = (place_within vertices_back places_back (length parents) post order.perm (parent_at parents c) vp).0 in
           step (omega arith) (subst (λ v. IsAbove tree v (place_of post y)) (sym e) (above_new q within))
@@ -175,12 +193,14 @@ module _ (vertices_back : VerticesAreInverse) (places_back : PlacesAreInverse) w
           let nb = new_of b vb.1 in
           let nx = new_of x (omega arith) in
           let there = between parents forest (place_of post) order.before (vertex_at post a) (vertex_at post b) (vertex_at post x)
-          (vertex_of (length parents) post order.perm a va) (vertex_of (length parents) post order.perm b vb) up (omega arith) (omega arith) in
+          (vertex_of (length parents) post order.perm a va)
+          (vertex_of (length parents) post order.perm b vb) up (omega arith) (omega arith) in
           let new = above_new there (vertex_of (length parents) post order.perm b vb).1 in
           subst (λ v. IsAbove tree v x) nb (subst (λ v. IsAbove tree (place_of post (vertex_at post b)) v) nx new)
 
     -- the table of the carried parents
-    module _ (table : List ℕ) (e : table ≡ map (λ k. place_of post (parent_at parents (vertex_at post k))) (range_with_len 0 (length post + 1))) where
+    module _ (table : List ℕ)
+        (e : table ≡ map (λ k. place_of post (parent_at parents (vertex_at post k))) (range_with_len 0 (length post + 1))) where
       pub list_is : parents_in table ≡ map (λ j. place_of post (parent_at parents j)) post
       list_is = table_along (λ j. place_of post (parent_at parents j)) post table (length post) refl e
 

@@ -1,5 +1,6 @@
 -- A new order of the columns in which each comes before its parent: structures and parents are carried over.
-use Rattle.std.proofs.Common.{sym, ◌∙◌, subst, ap, ◌+◌, ◌≡◌, ◌≢◌, inl, inr, ℕ, zero, suc, ◌<◌, ◌≤◌, Bool, false, IsTrue, List, length, map, arith, refl}
+use Rattle.std.proofs.Common.{sym, ◌∙◌, subst, ap, ◌+◌, ◌≡◌, ◌≢◌, inl, inr, ℕ, zero, suc, ◌<◌}
+use Rattle.std.proofs.Common.{◌≤◌, Bool, false, IsTrue, List, length, map, arith, refl}
 use Rattle.std.proofs.lemmas.Bool.{cases_eq, cases_order, cases_Bool}
 use Rattle.std.specs.List.{fold, range_with_len}
 use Rattle.std.proofs.lemmas.List.{get_or-map, length-map, ext_get_or}
@@ -21,7 +22,8 @@ use Rattle.elim_tree.proofs.Postorderings.{above_trans}
 use Rattle.elim_tree.proofs.PermCounts.{bit, count_along}
 use Rattle.elim_tree.proofs.OnePostorder.{VerticesAreInverse, PlacesAreInverse, vertex_of, place_within, same_list}
 
-module _ (parents_are_first : ParentsAreFirst) (joined : ℕ → ℕ → Bool) (pattern : IsAdjacency joined) (n : ℕ) (inside : IsWithin n joined) where
+module _ (parents_are_first : ParentsAreFirst) (joined : ℕ → ℕ → Bool)
+    (pattern : IsAdjacency joined) (n : ℕ) (inside : IsWithin n joined) where
   rises : (x : ℕ) → 0 < parent_at (parents_of joined n) x → x < parent_at (parents_of joined n) x
   rises = parents_rise parents_are_first joined pattern n inside
 
@@ -34,14 +36,17 @@ module _ (parents_are_first : ParentsAreFirst) (joined : ℕ → ℕ → Bool) (
       let up = rises j some in
       elim (cases_eq i (parent_at (parents_of joined n) j)) [
         | inl e ↦ step some (subst (λ v. IsAbove (parents_of joined n) (parent_at (parents_of joined n) j) v) (sym e) self)
-        | inr ne ↦ step some (reaches_in m (parent_at (parents_of joined n) j) i (omega arith) (first_reaches joined pattern j (parent_at (parents_of joined n) j) i first h ne))
+        | inr ne ↦ step some
+            (reaches_in m (parent_at (parents_of joined n) j) i (omega arith)
+            (first_reaches joined pattern j (parent_at (parents_of joined n) j) i first h ne))
       ]
 
   reaches_above : (j i : ℕ) → Reaches joined j i → IsAbove (parents_of joined n) j i
   reaches_above j i h = reaches_in (suc i) j i (omega arith) h
 
   -- the columns above one column stand above each other
-  above_between : {c a j : ℕ} → IsAbove (parents_of joined n) c a → IsAbove (parents_of joined n) c j → a ≤ j → IsAbove (parents_of joined n) a j
+  above_between : {c a j : ℕ} → IsAbove (parents_of joined n) c a
+      → IsAbove (parents_of joined n) c j → a ≤ j → IsAbove (parents_of joined n) a j
   above_between self q le = q
   above_between {c} {a} (step some r) self le =
       let up = rises c some in
@@ -67,7 +72,10 @@ module _ (parents_are_first : ParentsAreFirst) (joined : ℕ → ℕ → Bool) (
     rises_up self ne = absurd (ne refl)
     rises_up {a} {b} (step some q) ne =
         let x = keeps a some in
-        elim (cases_eq (parent_at (parents_of joined n) a) b) [ inl e ↦ subst (λ v. place_of post a < place_of post v) e x | inr np ↦ let y = rises_up q np in omega arith ]
+        elim (cases_eq (parent_at (parents_of joined n) a) b) [
+          | inl e ↦ subst (λ v. place_of post a < place_of post v) e x
+          | inr np ↦ let y = rises_up q np in omega arith
+        ]
 
     reaches_rises : (j i : ℕ) → Reaches joined j i → place_of post j < place_of post i
     reaches_rises j i h = let lt = reaches_later joined pattern j i h in rises_up (reaches_above j i h) (omega arith)
@@ -87,7 +95,8 @@ module _ (parents_are_first : ParentsAreFirst) (joined : ℕ → ℕ → Bool) (
         (subst (λ x. IsTrue (joined a x)) (sym (back_to b (inside b a (pattern.symmetric a b h)))) h)
 
     -- a path to j through columns less than it, by the new numbers; where it starts before j, it starts below j in the tree
-    forth : (j : ℕ) → {a b : ℕ} → Path joined j a b → b ≡ j → Path (renumbered joined post) (place_of post j) (place_of post a) (place_of post j) × (a < j → IsAbove (parents_of joined n) a j)
+    forth : (j : ℕ) → {a b : ℕ} → Path joined j a b → b ≡ j
+        → Path (renumbered joined post) (place_of post j) (place_of post a) (place_of post j) × (a < j → IsAbove (parents_of joined n) a j)
     forth j {a} {b} (edge h) e =
         let h' : IsTrue (joined a j) = subst (λ v. IsTrue (joined a v)) e h in
         (edge (there a j h'), λ lt. reaches_above a j (from_pattern joined pattern a j h' lt))
@@ -98,7 +107,8 @@ module _ (parents_are_first : ParentsAreFirst) (joined : ℕ → ℕ → Bool) (
 
     -- the way back
     back : (j : ℕ) → IsVertex n j → {a b : ℕ} → Path (renumbered joined post) (place_of post j) a b → b ≡ place_of post j
-        → Path joined j (vertex_at post a) j × (a < place_of post j → IsAbove (parents_of joined n) (vertex_at post a) j × (vertex_at post a < j))
+        → Path joined j (vertex_at post a) j
+        × (a < place_of post j → IsAbove (parents_of joined n) (vertex_at post a) j × (vertex_at post a < j))
     back j vj {a} {b} (edge h) e =
         let old = vertex_at post a in
         let h' : IsTrue (joined old j) = subst (λ v. IsTrue (joined old v)) (ap (vertex_at post) e ∙ back_to j vj) h in
@@ -108,7 +118,8 @@ module _ (parents_are_first : ParentsAreFirst) (joined : ℕ → ℕ → Bool) (
             | inl q ↦ absurd (pattern.irreflexive j (subst (λ v. IsTrue (joined v j)) q h'))
             | inr o ↦ elim o [
               | inl l ↦ (reaches_above old j (from_pattern joined pattern old j h' l), l)
-              | inr l ↦ let r = reaches_rises j old (from_pattern joined pattern j old (pattern.symmetric old j h') l) in absurd (omega arith)
+              | inr l ↦ let r = reaches_rises j old (from_pattern joined pattern j old (pattern.symmetric old j h') l) in
+                  absurd (omega arith)
             ]
           ],
         )
@@ -138,9 +149,11 @@ module _ (parents_are_first : ParentsAreFirst) (joined : ℕ → ℕ → Bool) (
     reaches_forth j i h =
         let lt = reaches_later joined pattern j i h in
         let p = (reaches_by_path joined pattern j i lt).0 h in
-        (reaches_by_path (renumbered joined post) renumbered_pattern (place_of post j) (place_of post i) (reaches_rises j i h)).1 (forth j p refl).0
+        (reaches_by_path (renumbered joined post) renumbered_pattern (place_of post j) (place_of post i) (reaches_rises j i h)).1
+        (forth j p refl).0
 
-    reaches_back : (j i : ℕ) → IsVertex n j → IsVertex n i → Reaches (renumbered joined post) (place_of post j) (place_of post i) → Reaches joined j i
+    reaches_back : (j i : ℕ) → IsVertex n j → IsVertex n i
+        → Reaches (renumbered joined post) (place_of post j) (place_of post i) → Reaches joined j i
     reaches_back j i vj vi h =
         let lt = reaches_later (renumbered joined post) renumbered_pattern (place_of post j) (place_of post i) h in
         let p = (reaches_by_path (renumbered joined post) renumbered_pattern (place_of post j) (place_of post i) lt).0 h in
@@ -155,22 +168,27 @@ module _ (parents_are_first : ParentsAreFirst) (joined : ℕ → ℕ → Bool) (
 
     -- ---- structures
 
-    structure_forth : (j i : ℕ) → IsTrue (structure_of joined j i) → IsTrue (structure_of (renumbered joined post) (place_of post j) (place_of post i))
+    structure_forth : (j i : ℕ) → IsTrue (structure_of joined j i)
+        → IsTrue (structure_of (renumbered joined post) (place_of post j) (place_of post i))
     structure_forth j i h =
         elim (cases_eq i j) [
           | inl e ↦ own_row (renumbered joined post) (place_of post j) (place_of post i) (ap (place_of post) e)
-          | inr ne ↦ in_structure (renumbered joined post) (place_of post j) (place_of post i) (reaches_forth j i (reached_or_own joined j i h ne))
+          | inr ne ↦ in_structure (renumbered joined post) (place_of post j)
+              (place_of post i) (reaches_forth j i (reached_or_own joined j i h ne))
         ]
 
-    structure_back : (j i : ℕ) → IsVertex n j → IsVertex n i → IsTrue (structure_of (renumbered joined post) (place_of post j) (place_of post i)) → IsTrue (structure_of joined j i)
+    structure_back : (j i : ℕ) → IsVertex n j → IsVertex n i
+        → IsTrue (structure_of (renumbered joined post) (place_of post j) (place_of post i)) → IsTrue (structure_of joined j i)
     structure_back j i vj vi h =
         elim (cases_eq i j) [
           | inl e ↦ own_row joined j i e
           | inr ne ↦ in_structure joined j i (reaches_back j i vj vi
-              (reached_or_own (renumbered joined post) (place_of post j) (place_of post i) h (λ e. ne (sym (back_to i vi) ∙ ap (vertex_at post) e ∙ back_to j vj))))
+              (reached_or_own (renumbered joined post) (place_of post j) (place_of post i) h
+              (λ e. ne (sym (back_to i vi) ∙ ap (vertex_at post) e ∙ back_to j vj))))
         ]
 
-    pub structures_same : (j i : ℕ) → IsVertex n j → IsVertex n i → structure_of joined j i ≡ structure_of (renumbered joined post) (place_of post j) (place_of post i)
+    pub structures_same : (j i : ℕ) → IsVertex n j → IsVertex n i
+        → structure_of joined j i ≡ structure_of (renumbered joined post) (place_of post j) (place_of post i)
     structures_same j i vj vi = same_tests _ _ (structure_forth j i) (structure_back j i vj vi)
       where
         same_tests : (s t : Bool) → (IsTrue s → IsTrue t) → (IsTrue t → IsTrue s) → s ≡ t
@@ -182,49 +200,61 @@ module _ (parents_are_first : ParentsAreFirst) (joined : ℕ → ℕ → Bool) (
 
     -- ---- parents
 
-    first_carried : (j p : ℕ) → IsVertex n j → IsFirstReached joined j p → IsFirstReached (renumbered joined post) (place_of post j) (place_of post p)
+    first_carried : (j p : ℕ) → IsVertex n j → IsFirstReached joined j p
+        → IsFirstReached (renumbered joined post) (place_of post j) (place_of post p)
     first_carried j p vj first = record {
-      reached = λ some. reaches_forth j p (first.reached (elim (cases_eq p 0) [ inl e ↦ let z = ap (place_of post) e ∙ places_back n post perm 0 (omega arith) in absurd (omega arith) | inr ne ↦ omega arith ]));
+      reached = λ some. reaches_forth j p (first.reached (elim (cases_eq p 0) [
+        | inl e ↦ let z = ap (place_of post) e ∙ places_back n post perm 0 (omega arith) in absurd (omega arith)
+        | inr ne ↦ omega arith
+      ]));
       least = λ m h.
           let le = row_within (renumbered joined post) renumbered_pattern n renumbered_within (place_of post j) m h in
           let later = reaches_later (renumbered joined post) renumbered_pattern (place_of post j) m h in
           let vm : IsVertex n m = (omega arith, le) in
           let again = places_back n post perm m le in
-          let h' = reaches_back j (vertex_at post m) vj (vertex_of n post perm m vm) (subst (λ v. Reaches (renumbered joined post) (place_of post j) v) (sym again) h) in
+          let h' = reaches_back j (vertex_at post m) vj (vertex_of n post perm m vm)
+          (subst (λ v. Reaches (renumbered joined post) (place_of post j) v) (sym again) h) in
           let f = first.least (vertex_at post m) h' in
           let vp : IsVertex n p = (let some = f.0 in omega arith, row_within joined pattern n inside j p (first.reached f.0)) in
           let place = place_within vertices_back places_back n post perm p vp in (
             let some = place.0 in omega arith,
             elim (cases_eq (vertex_at post m) p) [
               | inl e ↦ let z = sym again ∙ ap (place_of post) e in omega arith
-              | inr ne ↦ let z = reaches_rises p (vertex_at post m) (first_reaches joined pattern j p (vertex_at post m) first h' ne) in omega arith
+              | inr ne ↦ let z = reaches_rises p (vertex_at post m) (first_reaches joined pattern j p (vertex_at post m) first h' ne) in
+                  omega arith
             ],
           );
     }
 
-    parent_carried : (j : ℕ) → IsVertex n j → parent_of (renumbered joined post) n (place_of post j) ≡ place_of post (parent_at (parents_of joined n) j)
+    parent_carried : (j : ℕ) → IsVertex n j
+        → parent_of (renumbered joined post) n (place_of post j) ≡ place_of post (parent_at (parents_of joined n) j)
     parent_carried j vj =
-        parent_is_first parents_are_first (renumbered joined post) renumbered_pattern n renumbered_within (place_of post j) (place_of post (parent_at (parents_of joined n) j))
+        parent_is_first parents_are_first (renumbered joined post) renumbered_pattern n renumbered_within
+        (place_of post j) (place_of post (parent_at (parents_of joined n) j))
         (first_carried j (parent_at (parents_of joined n) j) vj (first_in_list parents_are_first joined pattern n inside j vj))
 
     -- ---- counts
 
     count_carried : (k : ℕ) → IsVertex n k → count_of (renumbered joined post) n k ≡ count_of joined n (vertex_at post k)
     count_carried k vk =
-        sym (fold-map (λ a b. a + bit b) (structure_of (renumbered joined post) k) 0 (range_with_len 1 n)) ∙ ap (fold (λ a b. a + bit b) 0) same
-        ∙ fold-map (λ a b. a + bit b) (structure_of joined (vertex_at post k)) 0 post ∙ count_along (structure_of joined (vertex_at post k)) n post perm
+        sym (fold-map (λ a b. a + bit b) (structure_of (renumbered joined post) k) 0 (range_with_len 1 n))
+        ∙ ap (fold (λ a b. a + bit b) 0) same
+        ∙ fold-map (λ a b. a + bit b) (structure_of joined (vertex_at post k)) 0 post
+        ∙ count_along (structure_of joined (vertex_at post k)) n post perm
       where
         long : length (map (structure_of (renumbered joined post) k) (range_with_len 1 n)) ≡ n
         long = length-map-range_with_len (structure_of (renumbered joined post) k) 1 n
 
         same : map (structure_of (renumbered joined post) k) (range_with_len 1 n) ≡ map (structure_of joined (vertex_at post k)) post
-        same = ext_get_or false (map (structure_of (renumbered joined post) k) (range_with_len 1 n)) (map (structure_of joined (vertex_at post k)) post)
+        same = ext_get_or false (map (structure_of (renumbered joined post) k) (range_with_len 1 n))
+            (map (structure_of joined (vertex_at post k)) post)
             (long ∙ sym (length-map post (structure_of joined (vertex_at post k)) ∙ perm.len))
             (λ i lt.
             let len = perm.len in
             let vi : IsVertex n (suc i) = (omega arith, omega (arith, long)) in
             get_or-map-range_with_len (structure_of (renumbered joined post) k) 1 n i (suc i) false (omega (arith, long)) (omega arith)
-            ∙ sym (structures_same (vertex_at post k) (vertex_at post (suc i)) (vertex_of n post perm k vk) (vertex_of n post perm (suc i) vi)
+            ∙ sym (structures_same (vertex_at post k) (vertex_at post (suc i))
+            (vertex_of n post perm k vk) (vertex_of n post perm (suc i) vi)
             ∙ ap (λ v. structure_of (renumbered joined post) v (place_of post (vertex_at post (suc i)))) (places_back n post perm k vk.1)
             ∙ ap (structure_of (renumbered joined post) k) (places_back n post perm (suc i) vi.1))
             ∙ sym (get_or-map (structure_of joined (vertex_at post k)) post i 0 false (omega (arith, long))))
@@ -239,25 +269,31 @@ module _ (parents_are_first : ParentsAreFirst) (joined : ℕ → ℕ → Bool) (
         at_each (suc i) vk =
             let le = vk.1 in
             let len = perm.len in
-            get_or-map-range_with_len (count_of (renumbered joined post) n) 1 n i (suc i) 0 (omega arith) (omega arith) ∙ count_carried (suc i) vk
+            get_or-map-range_with_len (count_of (renumbered joined post) n) 1 n i (suc i) 0 (omega arith) (omega arith)
+            ∙ count_carried (suc i) vk
             ∙ sym (get_or-map (count_of joined n) post i 0 0 (omega arith))
 
     pub parents_carried : parents_of (renumbered joined post) n ≡ map (λ j. place_of post (parent_at (parents_of joined n) j)) post
     parents_carried =
         same_list (parents_of (renumbered joined post) n) (map (λ j. place_of post (parent_at (parents_of joined n) j)) post) n
-        (length-map-range_with_len (parent_of (renumbered joined post) n) 1 n) (length-map post (λ j. place_of post (parent_at (parents_of joined n) j)) ∙ perm.len) at_each
+        (length-map-range_with_len (parent_of (renumbered joined post) n) 1 n)
+        (length-map post (λ j. place_of post (parent_at (parents_of joined n) j)) ∙ perm.len) at_each
       where
-        at_each : (k : ℕ) → IsVertex n k → vertex_at (parents_of (renumbered joined post) n) k ≡ vertex_at (map (λ j. place_of post (parent_at (parents_of joined n) j)) post) k
+        at_each : (k : ℕ) → IsVertex n k
+            → vertex_at (parents_of (renumbered joined post) n) k
+            ≡ vertex_at (map (λ j. place_of post (parent_at (parents_of joined n) j)) post) k
         at_each zero vk = absurd (let some = vk.0 in omega arith)
         at_each (suc i) vk =
             let le = vk.1 in
             let len = perm.len in
             let carried = parent_carried (vertex_at post (suc i)) (vertex_of n post perm (suc i) vk) in
-            parent_in_list (renumbered joined post) n (suc i) vk ∙ ap (parent_of (renumbered joined post) n) (sym (places_back n post perm (suc i) vk.1)) ∙ carried
+            parent_in_list (renumbered joined post) n (suc i) vk
+            ∙ ap (parent_of (renumbered joined post) n) (sym (places_back n post perm (suc i) vk.1)) ∙ carried
             ∙ sym (get_or-map (λ j. place_of post (parent_at (parents_of joined n) j)) post i 0 0 (omega arith))
 
 module _ (parents_are_first : ParentsAreFirst) (vertices_back : VerticesAreInverse) (places_back : PlacesAreInverse)
-    (joined : ℕ → ℕ → Bool) (n : ℕ) (post : List ℕ) (pattern : IsAdjacency joined) (inside : IsWithin n joined) (order : IsPostorder (parents_of joined n) post) where
+    (joined : ℕ → ℕ → Bool) (n : ℕ) (post : List ℕ) (pattern : IsAdjacency joined)
+    (inside : IsWithin n joined) (order : IsPostorder (parents_of joined n) post) where
   all_parents : length (parents_of joined n) ≡ n
   all_parents = length-map-range_with_len (parent_of joined n) 1 n
 
@@ -271,10 +307,14 @@ module _ (parents_are_first : ParentsAreFirst) (vertices_back : VerticesAreInver
       let vj = vertex_with_parent (parents_of joined n) j some in
       let first = first_in_list parents_are_first joined pattern n inside j (subst (λ m. IsVertex m j) all_parents vj) in
       let reached = first.reached some in
-      let vp : IsVertex n (parent_at (parents_of joined n) j) = (omega arith, row_within joined pattern n inside j (parent_at (parents_of joined n) j) reached) in
-      order.before j (parent_at (parents_of joined n) j) vj (subst (λ m. IsVertex m (parent_at (parents_of joined n) j)) (sym all_parents) vp) (below (step some self) (λ e. absurd (omega arith)))
+      let vp : IsVertex n (parent_at (parents_of joined n) j) =
+      (omega arith, row_within joined pattern n inside j (parent_at (parents_of joined n) j) reached) in
+      order.before j (parent_at (parents_of joined n) j) vj
+      (subst (λ m. IsVertex m (parent_at (parents_of joined n) j)) (sym all_parents) vp)
+      (below (step some self) (λ e. absurd (omega arith)))
 
-  pub structure_by_postorder : (j i : ℕ) → IsVertex n j → IsVertex n i → structure_of joined j i ≡ structure_of (renumbered joined post) (place_of post j) (place_of post i)
+  pub structure_by_postorder : (j i : ℕ) → IsVertex n j → IsVertex n i
+      → structure_of joined j i ≡ structure_of (renumbered joined post) (place_of post j) (place_of post i)
   structure_by_postorder = structures_same parents_are_first joined pattern n inside vertices_back places_back post perm_of_all keeps_order
 
   pub parents_by_postorder : parents_of (renumbered joined post) n ≡ map (λ j. place_of post (parent_at (parents_of joined n) j)) post

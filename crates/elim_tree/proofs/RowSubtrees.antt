@@ -37,7 +37,8 @@ one_first joined j (suc p) (suc q) one two =
     let high = (one.least (suc q) (two.reached (omega arith))).1 in
     omega arith
 
-module _ (parents_are_first : ParentsAreFirst) (joined : ℕ → ℕ → Bool) (pattern : IsAdjacency joined) (n : ℕ) (inside : IsWithin n joined) where
+module _ (parents_are_first : ParentsAreFirst) (joined : ℕ → ℕ → Bool)
+    (pattern : IsAdjacency joined) (n : ℕ) (inside : IsWithin n joined) where
   pub first_is_parent : (j : ℕ) → IsFirstReached joined j (parent_of joined n j)
   first_is_parent j = parent_is joined pattern n inside j (parent_of joined n j) (parents_are_first joined n j)
 
@@ -83,7 +84,8 @@ module _ (parents_are_first : ParentsAreFirst) (joined : ℕ → ℕ → Bool) (
 
   pub parents_rise : (x : ℕ) → 0 < parent_at (parents_of joined n) x → x < parent_at (parents_of joined n) x
   parents_rise x some =
-      let vertex = subst (λ k. IsVertex k x) (length-map-range_with_len (parent_of joined n) 1 n) (vertex_with_parent (parents_of joined n) x some) in
+      let vertex = subst (λ k. IsVertex k x) (length-map-range_with_len (parent_of joined n) 1 n)
+      (vertex_with_parent (parents_of joined n) x some) in
       reaches_later joined pattern x (parent_at (parents_of joined n) x) ((first_in_list x vertex).reached some)
 
   way_to : (i m x : ℕ) → x < m → Reaches joined x i → IsInRowSubtree joined n i x
@@ -94,7 +96,8 @@ module _ (parents_are_first : ParentsAreFirst) (joined : ℕ → ℕ → Bool) (
         | inr f ↦
             let below = reaches_later joined pattern f.0 x (f.1.reached f.2) in
             let ih = way_to i m f.0 (omega arith) f.3 in
-            let up : parent_at (parents_of joined n) f.0 ≡ x = parent_in_list joined n f.0 (column_within joined pattern n inside f.0 i f.3) ∙ parent_is_first f.0 x f.1 in
+            let up : parent_at (parents_of joined n) f.0 ≡ x =
+            parent_in_list joined n f.0 (column_within joined pattern n inside f.0 i f.3) ∙ parent_is_first f.0 x f.1 in
             let some = f.2 in
             (ih.0, ih.1, ih.2, subst (λ y. IsAbove (parents_of joined n) ih.0 y) up (above_on ih.3 (omega arith)))
       ]

@@ -7,7 +7,8 @@ use Rattle.elim_tree.specs.Reaches.{Reaches}
 use Rattle.elim_tree.specs.Forests.{Rooted, CanLink, CanTake, IsTaken, IsLinked, IsInTurn, column_in}
 
 -- an earlier column of the row may be put under k
-pub can_link : (forest : Rooted) (k i column : ℕ) (row order parents ancestors parents' ancestors' : List ℕ) → CanTake forest k row order parents ancestors → i < length row
+pub can_link : (forest : Rooted) (k i column : ℕ) (row order parents ancestors parents' ancestors' : List ℕ)
+    → CanTake forest k row order parents ancestors → i < length row
     → (t : IsTaken forest k row order i parents' ancestors') → column ≡ column_in row order i → column < k
     → CanLink (record { joined = forest.joined; root = t.0 }) k column parents' ancestors'
 can_link forest k i column row order parents ancestors parents' ancestors' can lt t e below =
@@ -21,7 +22,8 @@ pub more_taken : (forest : Rooted) (k i column : ℕ) (row order parents ancesto
 more_taken forest k i column row order parents ancestors t e parents' ancestors' new = (
   new.0,
   new.1,
-  below_more (λ j. column_in row order j < k → new.0 (column_in row order j) ≡ k) i (λ j b l. new.3 (column_in row order j) (t.2 j b l)) (λ _. ap new.0 (sym e) ∙ new.2),
+  below_more (λ j. column_in row order j < k → new.0 (column_in row order j) ≡ k) i
+      (λ j b l. new.3 (column_in row order j) (t.2 j b l)) (λ _. ap new.0 (sym e) ∙ new.2),
 )
 
 -- .. and so it is where its column is not before k
@@ -31,7 +33,8 @@ pub none_taken : (forest : Rooted) (k i column : ℕ) (row order parents ancesto
 none_taken forest k i column row order parents ancestors t e not = (
   t.0,
   t.1,
-  below_more (λ j. column_in row order j < k → t.0 (column_in row order j) ≡ k) i t.2 (λ below. absurd (not (subst (λ x. x < k) (sym e) below))),
+  below_more (λ j. column_in row order j < k → t.0 (column_in row order j) ≡ k) i t.2
+      (λ below. absurd (not (subst (λ x. x < k) (sym e) below))),
 )
 
 -- where the vertices of a rising row are their own columns, none is earlier past the first that is not

@@ -30,7 +30,8 @@ module _ (n : ℕ) (parent below before : ℕ → ℕ) (rising : IsRising n pare
       let all = counted.sizes (parent j) (elim (cases_eq (parent j) 0) [ inl e ↦ omega arith | inr ne ↦ (rising j (omega arith)).1 ]) in
       omega arith
 
-  module _ (j k : ℕ) (start place : ℕ → ℕ) (next : k ≡ suc j) (pos : 0 < j) (lt : j < n) (placed : IsPlacedFrom k n parent below before start place) where
+  module _ (j k : ℕ) (start place : ℕ → ℕ) (next : k ≡ suc j) (pos : 0 < j)
+      (lt : j < n) (placed : IsPlacedFrom k n parent below before start place) where
     pub placed_room : start (parent j) + start j + below j + 1 < n
     placed_room =
         let here = within j pos lt in
@@ -53,7 +54,9 @@ module _ (n : ℕ) (parent below before : ℕ → ℕ) (rising : IsRising n pare
       first = same 0 (λ e. absurd (omega arith)) ∙ placed.first;
       left = λ x xj. same x (λ e. absurd (omega arith)) ∙ placed.left x (omega arith);
       begins = λ x xp jx xn. elim (cases_eq x j) [
-        | inl e ↦ rw e (here ∙ ap (λ v. v + start j) (sym (above j pos (omega arith))) ∙ ap (λ v. start' (parent j) + v) (placed.left j (omega arith)))
+        | inl e ↦ rw e
+            (here ∙ ap (λ v. v + start j) (sym (above j pos (omega arith)))
+            ∙ ap (λ v. start' (parent j) + v) (placed.left j (omega arith)))
         | inr ne ↦ same x ne ∙ placed.begins x xp (omega arith) xn ∙ ap (λ v. v + before x) (sym (above x xp jx))
       ];
       small = λ x xp jx xn. elim (cases_eq x j) [
@@ -70,9 +73,13 @@ module _ (n : ℕ) (parent below before : ℕ → ℕ) (rising : IsRising n pare
         -- parents were placed before, or are none
         above : (x : ℕ) → 0 < x → j ≤ x → start' (parent x) ≡ start (parent x)
         above x xp jx =
-            same (parent x) (λ e. elim (cases_eq (parent x) 0) [ inl z ↦ absurd (omega arith) | inr nz ↦ let up = rising x (omega arith) in absurd (omega arith) ])
+            same (parent x) (λ e. elim (cases_eq (parent x) 0) [
+              | inl z ↦ absurd (omega arith)
+              | inr nz ↦ let up = rising x (omega arith) in absurd (omega arith)
+            ])
 
-  pub placed_all : (j : ℕ) (start place : ℕ → ℕ) → j ≤ 1 → IsPlacedFrom j n parent below before start place → IsPlaced n parent below start place
+  pub placed_all : (j : ℕ) (start place : ℕ → ℕ) → j ≤ 1
+      → IsPlacedFrom j n parent below before start place → IsPlaced n parent below start place
   placed_all j start place done placed = record {
     first = placed.first;
     begins = λ x pos lt. placed.begins x pos (omega arith) lt ∙ ap (λ v. start (parent x) + v) (counted.siblings x pos lt);

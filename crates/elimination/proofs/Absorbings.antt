@@ -1,5 +1,6 @@
 -- One elimination, told by the tables.
-use Rattle.std.proofs.Common.{◌≡◌, ◌≢◌, ℕ, ◌<◌, inl, inr, ◌⊎◌, Bool, false, cond, ◌||◌, List, [], length, refl, sym, ap, ◌∙◌, arith, subst, IsTrue, eqb}
+use Rattle.std.proofs.Common.{◌≡◌, ◌≢◌, ℕ, ◌<◌, inl, inr, ◌⊎◌, Bool, false, cond, ◌||◌, List}
+use Rattle.std.proofs.Common.{[], length, refl, sym, ap, ◌∙◌, arith, subst, IsTrue, eqb}
 use Rattle.std.proofs.lemmas.Bool.{cases_eq, cases_Bool, both_ways, eq-eqb, ne_eqb, or_left, or_right}
 use Rattle.elimination.specs.Elimination.{eliminate, IsVertex}
 use Rattle.patterns.specs.Pattern.{has}

@@ -19,7 +19,8 @@ use Rattle.elimination.proofs.Gatherings.{neighbour_within}
 use Rattle.elimination.proofs.FoundTwins.{found_twins}
 use Rattle.elimination.proofs.BoundSteps.{least_left, first_of_all, counted_bound}
 
-module _ (q : Quotient) (t : Tables) (stand : StandFor q t) (few : q.order ≤ most_order) (w : ℕ) (vw : IsVertex q.order w) (lw : t.turn w ≡ 0)
+module _ (q : Quotient) (t : Tables) (stand : StandFor q t)
+    (few : q.order ≤ most_order) (w : ℕ) (vw : IsVertex q.order w) (lw : t.turn w ≡ 0)
     (v : ℕ) (f : IsFirstLeast t.bounds v) where
   pub the_first : IsVertex q.order v × (t.turn v ≡ 0) × (q.rep v ≡ v)
   the_first = least_left q t.turn t.groups t.sizes t.bounds stand.grouped stand.bounds few w vw lw v f

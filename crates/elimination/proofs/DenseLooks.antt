@@ -11,7 +11,8 @@ use Rattle.lists.proofs.Bools.{same_bool}
 use Rattle.elimination.proofs.Degrees.{counted_is, near_count}
 
 -- who is near a vertex that is left is left too
-pub near_stands : (stage : Stage) (row : ℕ → List Bool) (opened : List ℕ) (alive : List Bool) → AreBitRows stage row opened alive → (v x : ℕ)
+pub near_stands : (stage : Stage) (row : ℕ → List Bool) (opened : List ℕ) (alive : List Bool)
+    → AreBitRows stage row opened alive → (v x : ℕ)
     → IsStanding stage v → IsTrue (is_near stage.left v x) → IsStanding stage x
 near_stands stage row opened alive s v x here near = elim (or_cases (eqb v x) _ near) [
   | inl e ↦ subst (IsStanding stage) (eqb-true v x e) here

@@ -1,12 +1,14 @@
 -- The order of a dense search: turn by turn, and its end, where all that are left are joined to each other.
-use Rattle.std.proofs.Common.{◌≡◌, ◌≢◌, ℕ, ◌+◌, ◌<◌, ◌≤◌, inl, inr, Bool, true, false, eqb, List, [], ◌∷◌, ◌++◌, length, get_or, sym, arith, subst, IsTrue}
+use Rattle.std.proofs.Common.{◌≡◌, ◌≢◌, ℕ, ◌+◌, ◌<◌, ◌≤◌, inl, inr, Bool, true, false, eqb, List}
+use Rattle.std.proofs.Common.{[], ◌∷◌, ◌++◌, length, get_or, sym, arith, subst, IsTrue}
 use Rattle.std.proofs.lemmas.Bool.{cases_eq, cases_lt, cases_Bool, or_cases, or_left, or_right, eq-eqb, eqb-true, both_ways}
 use Rattle.patterns.specs.Pattern.{has}
 use Rattle.min_tree.specs.Least.{IsFirstLeast}
 use Rattle.elimination.specs.Elimination.{IsRemaining, IsAdjacency, times, eliminate, eliminated, degree_of}
 use Rattle.elimination.specs.Twins.{is_near}
 use Rattle.bit_rows.specs.Bits.{bit_in}
-use Rattle.elimination.specs.Dense.{IsStanding, IsDense, IsDenseChoice, IsDenseUnderWay, IsDenseRest, IsLeastDegreeOrder, stage_of, stage_after}
+use Rattle.elimination.specs.Dense.{IsStanding, IsDense, IsDenseChoice, IsDenseUnderWay, IsDenseRest}
+use Rattle.elimination.specs.Dense.{IsLeastDegreeOrder, stage_of, stage_after}
 use Rattle.elimination.specs.declared.dense.DenseSearch.{DenseSearch}
 use Rattle.elimination.proofs.Eliminations.{eliminated_push, pattern_eliminate, kept, keep_old}
 use Rattle.elimination.proofs.ListFacts.{times_unless, times_some}

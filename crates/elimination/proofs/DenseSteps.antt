@@ -1,7 +1,9 @@
 -- Steps of the dense search: a bound is raised, the first of all is found, and a vertex is eliminated.
-use Rattle.std.proofs.Common.{◌≡◌, ◌≢◌, ◌⊎◌, inl, inr, ℕ, ◌-◌, ◌<◌, ◌≤◌, Bool, true, false, ◌&&◌, eqb, List, [], ◌∷◌, ◌++◌, length, get_or, set, length-set, refl, sym, ◌∙◌, arith, subst, IsTrue}
+use Rattle.std.proofs.Common.{◌≡◌, ◌≢◌, ◌⊎◌, inl, inr, ℕ, ◌-◌, ◌<◌, ◌≤◌, Bool, true, false, ◌&&◌, eqb, List, []}
+use Rattle.std.proofs.Common.{◌∷◌, ◌++◌, length, get_or, set, length-set, refl, sym, ◌∙◌, arith, subst, IsTrue}
 use Rattle.std.specs.List.{filter, sum_by}
-use Rattle.std.proofs.lemmas.Bool.{cases_eq, cases_lt, cases_Bool, or_cases, or_left, or_right, or_parts, and_from, and_parts, both_ways, false_from_ne_true, not_from_false, eqb-true, eq-eqb}
+use Rattle.std.proofs.lemmas.Bool.{cases_eq, cases_lt, cases_Bool, or_cases, or_left, or_right, or_parts, and_from}
+use Rattle.std.proofs.lemmas.Bool.{and_parts, both_ways, false_from_ne_true, not_from_false, eqb-true, eq-eqb}
 use Rattle.std.proofs.lemmas.List.{get_or-set_other, get_or-set_same}
 use Rattle.std.proofs.lemmas.List.Sums.{sum_by-set}
 use Rattle.limits.specs.Limits.{most_order}
@@ -141,7 +143,8 @@ filter_to q (x ∷ xs) p h t = elim (has_cases (x ∷ []) xs p h) [
       )
 ]
 
-module _ (stage : Stage) (row : ℕ → List Bool) (opened : List ℕ) (alive : List Bool) (s : AreBitRows stage row opened alive) (v : ℕ) (here : IsStanding stage v)
+module _ (stage : Stage) (row : ℕ → List Bool) (opened : List ℕ) (alive : List Bool)
+    (s : AreBitRows stage row opened alive) (v : ℕ) (here : IsStanding stage v)
     (exact : (x : ℕ) → IsStanding stage x → bit_in (row v) x ≡ is_near stage.left v x)
     (alive' : List Bool) (alive_len : length alive' ≡ length alive) (cleared : bit_in alive' v ≡ false)
     (others : (x : ℕ) → x ≢ v → bit_in alive' x ≡ bit_in alive x) where

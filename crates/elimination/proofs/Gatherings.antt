@@ -1,5 +1,6 @@
 -- Before and after the row of a vertex is looked at.
-use Rattle.std.proofs.Common.{◌≡◌, ◌≢◌, ℕ, ◌<◌, inl, inr, ◌⊎◌, Bool, true, false, List, [], length, refl, sym, ap, ◌∙◌, arith, subst, IsTrue, set, get_or}
+use Rattle.std.proofs.Common.{◌≡◌, ◌≢◌, ℕ, ◌<◌, inl, inr, ◌⊎◌, Bool, true, false, List, [], length}
+use Rattle.std.proofs.Common.{refl, sym, ap, ◌∙◌, arith, subst, IsTrue, set, get_or}
 use Rattle.std.proofs.lemmas.Bool.{cases_eq, cases_Bool, both_ways}
 use Rattle.std.proofs.lemmas.List.Elements.{All-nil}
 use Rattle.elimination.specs.Elimination.{IsVertex}

@@ -1,5 +1,6 @@
 -- Shortening one link.
-use Rattle.std.proofs.Common.{sym, ◌∙◌, subst, ap, ◌≡◌, ◌≢◌, inl, inr, ℕ, ◌<◌, arith, List, length, set, get_or-set_other, get_or-set_same, length-set}
+use Rattle.std.proofs.Common.{sym, ◌∙◌, subst, ap, ◌≡◌, ◌≢◌, inl, inr, ℕ, ◌<◌, arith, List}
+use Rattle.std.proofs.Common.{length, set, get_or-set_other, get_or-set_same, length-set}
 use Rattle.std.proofs.lemmas.Bool.{cases_eq}
 use Rattle.elimination.specs.Quotients.{Quotient, IsQuotient, AreLinks, LeadsTo, at}
 

@@ -1,5 +1,6 @@
 -- An elimination from its start on, turn by turn.
-use Rattle.std.proofs.Common.{◌≡◌, ◌≢◌, ℕ, ◌+◌, ◌<◌, ◌≤◌, inl, inr, false, List, [], ◌∷◌, ◌++◌, length, refl, sym, ap, ◌∙◌, arith, subst, IsTrue, length-append}
+use Rattle.std.proofs.Common.{◌≡◌, ◌≢◌, ℕ, ◌+◌, ◌<◌, ◌≤◌, inl, inr, false, List, [], ◌∷◌, ◌++◌}
+use Rattle.std.proofs.Common.{length, refl, sym, ap, ◌∙◌, arith, subst, IsTrue, length-append}
 use Rattle.std.proofs.lemmas.Bool.{both_ways, cases_eq}
 use Rattle.patterns.specs.Pattern.{has, is_joined}
 use Rattle.patterns.specs.Pattern as pattern

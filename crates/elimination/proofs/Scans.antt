@@ -1,5 +1,6 @@
 -- Looking at one more vertex of a row.
-use Rattle.std.proofs.Common.{◌≡◌, ◌≢◌, ℕ, ◌+◌, ◌<◌, inl, inr, Bool, true, List, [], ◌∷◌, ◌++◌, length, sym, ap, ◌∙◌, arith, subst, IsTrue, set}
+use Rattle.std.proofs.Common.{◌≡◌, ◌≢◌, ℕ, ◌+◌, ◌<◌, inl, inr, Bool, true, List, [], ◌∷◌}
+use Rattle.std.proofs.Common.{◌++◌, length, sym, ap, ◌∙◌, arith, subst, IsTrue, set}
 use Rattle.std.proofs.lemmas.Bool.{cases_eq}
 use Rattle.elimination.specs.Elimination.{IsAdjacency}
 use Rattle.patterns.specs.Pattern.{has}

@@ -11,7 +11,8 @@ use Rattle.mp_text.specs.Ahead.{rows_of_bytes, past_of_bytes}
 use Rattle.mp_text.specs.Grammar.{fault_at}
 use Rattle.graph_files.specs.declared.kind.GraphKind.{GraphKind}
 use Rattle.graph_files.specs.declared.kind.GraphKind.TheVariants as kinds
-use Rattle.graphs.specs.Graph.{TaskGraph, IsAmong, CanBeOrdered, TaskShareFits, IsGraph, completed_arcs, size_into, size_out_of, listed_task}
+use Rattle.graphs.specs.Graph.{TaskGraph, IsAmong, CanBeOrdered, TaskShareFits, IsGraph}
+use Rattle.graphs.specs.Graph.{completed_arcs, size_into, size_out_of, listed_task}
 use Rattle.graph_files.specs.GraphFile.{graph_format, stated_by, ReadsGraph, RefusesCycle, RefusesShare, RefusesGraph}
 use Rattle.lists.proofs.Places.{IsEither, first_without, one_first_without}
 use Rattle.graphs.specs.Judged.{HasFewArcs, IsOrdered, IsPlain}
@@ -41,7 +42,8 @@ fits_or_not graph v among =
 
 -- ---- a file is read or refused
 
-pub read_or_refused : SomeOutcome GraphKind → (bytes : List ℕ) → ((graph : TaskGraph) × ReadsGraph bytes graph) ⊎ ((refusal : Refusal GraphKind) × RefusesGraph bytes refusal)
+pub read_or_refused : SomeOutcome GraphKind → (bytes : List ℕ)
+    → ((graph : TaskGraph) × ReadsGraph bytes graph) ⊎ ((refusal : Refusal GraphKind) × RefusesGraph bytes refusal)
 read_or_refused outcome bytes =
     let rows = rows_of_bytes Commented bytes in
     let graph = stated_by bytes in
@@ -50,13 +52,22 @@ read_or_refused outcome bytes =
       | inr refused ↦ inr (refused.0, inl refused.1)
       | inl form ↦ elim (few_or_not graph) [
         | inr many ↦ inr (refusals.Limit limits.Arcs, inr (inl (record { form = form; many = many; refusal_is = refl })))
-        | inl few ↦ elim (first_without n (CanBeOrdered graph.arcs) (ordered_or_not n graph.arcs (well_formed_within rows (past_of_bytes bytes) form).arcs)) [
-          | inr first ↦ inr (fault_at (line_stating rows first.0) kinds.Cycle, inr (inr (inl (record { form = form; few = few; task = first.0; first = first.1; refusal_is = refl }))))
-          | inl ordered ↦ elim (first_without n (TaskShareFits graph.tasks graph.arcs) (fits_or_not graph)) [
-            | inr first ↦ inr (fault_at (line_stating rows first.0) kinds.Share, inr (inr (inr (record { form = form; few = few; ordered = ordered; task = first.0; first = first.1; refusal_is = refl }))))
-            | inl shares ↦ inl (graph, record { form = form; stated = refl; few = few; ordered = ordered; shares = shares })
-          ]
-        ]
+        | inl few ↦
+            elim (first_without n (CanBeOrdered graph.arcs)
+            (ordered_or_not n graph.arcs (well_formed_within rows (past_of_bytes bytes) form).arcs)) [
+              | inr first ↦ inr (
+                fault_at (line_stating rows first.0) kinds.Cycle,
+                inr (inr (inl (record { form = form; few = few; task = first.0; first = first.1; refusal_is = refl }))),
+              )
+              | inl ordered ↦ elim (first_without n (TaskShareFits graph.tasks graph.arcs) (fits_or_not graph)) [
+                | inr first ↦ inr (
+                  fault_at (line_stating rows first.0) kinds.Share,
+                  inr (inr
+                      (inr (record { form = form; few = few; ordered = ordered; task = first.0; first = first.1; refusal_is = refl }))),
+                )
+                | inl shares ↦ inl (graph, record { form = form; stated = refl; few = few; ordered = ordered; shares = shares })
+              ]
+            ]
       ]
     ]
 
@@ -71,11 +82,15 @@ module _ (bytes : List ℕ) (graph : TaskGraph) (reads : ReadsGraph bytes graph)
   shares_stated : (v : ℕ) → IsAmong (length (stated_by bytes).tasks) v → TaskShareFits (stated_by bytes).tasks (stated_by bytes).arcs v
   shares_stated = subst (λ (g : TaskGraph). (v : ℕ) → IsAmong (length g.tasks) v → TaskShareFits g.tasks g.arcs v) reads.stated reads.shares
 
-pub not_both : NotBoth GraphKind → (bytes : List ℕ) (graph : TaskGraph) (refusal : Refusal GraphKind) → ReadsGraph bytes graph → RefusesGraph bytes refusal → ⊥
-not_both apart bytes graph refusal reads (inl refused) = apart graph_format (rows_of_bytes Commented bytes) (past_of_bytes bytes) refusal reads.form refused
+pub not_both : NotBoth GraphKind → (bytes : List ℕ) (graph : TaskGraph) (refusal : Refusal GraphKind)
+    → ReadsGraph bytes graph → RefusesGraph bytes refusal → ⊥
+not_both apart bytes graph refusal reads (inl refused) =
+    apart graph_format (rows_of_bytes Commented bytes) (past_of_bytes bytes) refusal reads.form refused
 not_both apart bytes graph refusal reads (inr (inl arcs)) = arcs.many (few_stated bytes graph reads)
-not_both apart bytes graph refusal reads (inr (inr (inl cycle))) = cycle.first.fails (ordered_stated bytes graph reads cycle.task cycle.first.is_place)
-not_both apart bytes graph refusal reads (inr (inr (inr share))) = share.first.fails (shares_stated bytes graph reads share.task share.first.is_place)
+not_both apart bytes graph refusal reads (inr (inr (inl cycle))) =
+    cycle.first.fails (ordered_stated bytes graph reads cycle.task cycle.first.is_place)
+not_both apart bytes graph refusal reads (inr (inr (inr share))) =
+    share.first.fails (shares_stated bytes graph reads share.task share.first.is_place)
 
 one_cycle : (bytes : List ℕ) (one two : Refusal GraphKind) → RefusesCycle bytes one → RefusesCycle bytes two → one ≡ two
 one_cycle bytes one two this that =
@@ -87,8 +102,10 @@ one_share bytes one two this that =
     let same = one_first_without _ _ this.task that.task this.first that.first in
     this.refusal_is ∙ ap (λ (v : ℕ). fault_at (line_stating (rows_of_bytes Commented bytes) v) kinds.Share) same ∙ sym that.refusal_is
 
-pub one_refusal : NotBoth GraphKind → OneRefusal GraphKind → (bytes : List ℕ) (one two : Refusal GraphKind) → RefusesGraph bytes one → RefusesGraph bytes two → one ≡ two
-one_refusal apart only bytes one two (inl this) (inl that) = only graph_format (rows_of_bytes Commented bytes) (past_of_bytes bytes) one two this that
+pub one_refusal : NotBoth GraphKind → OneRefusal GraphKind → (bytes : List ℕ) (one two : Refusal GraphKind)
+    → RefusesGraph bytes one → RefusesGraph bytes two → one ≡ two
+one_refusal apart only bytes one two (inl this) (inl that) =
+    only graph_format (rows_of_bytes Commented bytes) (past_of_bytes bytes) one two this that
 one_refusal apart only bytes one two (inl this) (inr (inl that)) = absurd (apart _ _ _ one that.form this)
 one_refusal apart only bytes one two (inl this) (inr (inr (inl that))) = absurd (apart _ _ _ one that.form this)
 one_refusal apart only bytes one two (inl this) (inr (inr (inr that))) = absurd (apart _ _ _ one that.form this)
@@ -99,13 +116,23 @@ one_refusal apart only bytes one two (inr (inl this)) (inr (inr (inr that))) = a
 one_refusal apart only bytes one two (inr (inr (inl this))) (inl that) = absurd (apart _ _ _ two this.form that)
 one_refusal apart only bytes one two (inr (inr (inl this))) (inr (inl that)) = absurd (that.many this.few)
 one_refusal apart only bytes one two (inr (inr (inl this))) (inr (inr (inl that))) = one_cycle bytes one two this that
-one_refusal apart only bytes one two (inr (inr (inl this))) (inr (inr (inr that))) = absurd (this.first.fails (that.ordered this.task this.first.is_place))
+one_refusal apart only bytes one two (inr (inr (inl this))) (inr (inr (inr that))) =
+    absurd (this.first.fails (that.ordered this.task this.first.is_place))
 one_refusal apart only bytes one two (inr (inr (inr this))) (inl that) = absurd (apart _ _ _ two this.form that)
 one_refusal apart only bytes one two (inr (inr (inr this))) (inr (inl that)) = absurd (that.many this.few)
-one_refusal apart only bytes one two (inr (inr (inr this))) (inr (inr (inl that))) = absurd (that.first.fails (this.ordered that.task that.first.is_place))
+one_refusal apart only bytes one two (inr (inr (inr this))) (inr (inr (inl that))) =
+    absurd (that.first.fails (this.ordered that.task that.first.is_place))
 one_refusal apart only bytes one two (inr (inr (inr this))) (inr (inr (inr that))) = one_share bytes one two this that
 
 pub reads-is_graph : (bytes : List ℕ) (graph : TaskGraph) → ReadsGraph bytes graph → IsGraph graph
 reads-is_graph bytes graph reads =
     let within = subst IsPlain (sym reads.stated) (well_formed_within (rows_of_bytes Commented bytes) (past_of_bytes bytes) reads.form) in
-    record { few_tasks = within.few_tasks; few_arcs = reads.few; tasks = within.tasks; arcs = within.arcs; total = within.total; ordered = reads.ordered; shares = reads.shares }
+    record {
+      few_tasks = within.few_tasks;
+      few_arcs = reads.few;
+      tasks = within.tasks;
+      arcs = within.arcs;
+      total = within.total;
+      ordered = reads.ordered;
+      shares = reads.shares;
+    }

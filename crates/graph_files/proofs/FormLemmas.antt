@@ -1,8 +1,10 @@
 -- What well-formed lines of a graph file say of the graph that they state.
-use Rattle.std.proofs.Common.{◌≡◌, ℕ, ◌+◌, ◌-◌, ◌<◌, ◌≤◌, true, false, not, ◌&&◌, eqb, ltb, leb, List, [], ◌∷◌, ◌++◌, length, get_or, take, drop, map, refl, sym, ap, subst, ◌∙◌, arith, None, append_assoc, inl, inr}
+use Rattle.std.proofs.Common.{◌≡◌, ℕ, ◌+◌, ◌-◌, ◌<◌, ◌≤◌, true, false, not, ◌&&◌, eqb, ltb, leb, List, [], ◌∷◌, ◌++◌, length}
+use Rattle.std.proofs.Common.{get_or, take, drop, map, refl, sym, ap, subst, ◌∙◌, arith, None, append_assoc, inl, inr}
 use Rattle.std.specs.Prelude.{◌||◌}
 use Rattle.std.specs.List.{All}
-use Rattle.std.proofs.lemmas.List.{length-map, get_or-map, take_all, drop_more, take-append-drop, length-take-le, take_at, drop_at, length-drop}
+use Rattle.std.proofs.lemmas.List.{length-map, get_or-map, take_all, drop_more, take-append-drop}
+use Rattle.std.proofs.lemmas.List.{length-take-le, take_at, drop_at, length-drop}
 use Rattle.std.proofs.lemmas.List.Sums.{sum_by_more}
 use Rattle.std.proofs.lemmas.Bool.{leb-true, eqb-true, eqb-false, lt-ltb, or_cases, cases_lt}
 use Rattle.limits.specs.Limits.{most_tasks, most_arcs, most_total}
@@ -12,7 +14,8 @@ use Rattle.mp_system.specs.declared.system.Task.{Task}
 use Rattle.mp_system.specs.System.{IsTaskWithin, extra_size}
 use Rattle.graphs.specs.declared.arc.Arc.{Arc}
 use Rattle.graphs.specs.Graph.{TaskGraph, IsArcWithin, arc_size}
-use Rattle.graph_files.specs.GraphFile.{graph_format, tasks_stated, arcs_stated, task_tests, task_on_row, extras_of, arc_tests, arc_of, sizes_of, are_arcs_complete, is_graph_complete, arc_part_tests, graph_stated}
+use Rattle.graph_files.specs.GraphFile.{graph_format, tasks_stated, arcs_stated, task_tests, task_on_row, extras_of, arc_tests}
+use Rattle.graph_files.specs.GraphFile.{arc_of, sizes_of, are_arcs_complete, is_graph_complete, arc_part_tests, graph_stated}
 use Rattle.graphs.specs.Judged.{IsPlain}
 use Rattle.graph_files.proofs.ReaderLaws.{past_tasks}
 use Rattle.lists.proofs.Bools.{false_of_not, both_true, positive}
@@ -97,7 +100,13 @@ arcs_of : (left : List Row) → are_arcs_complete left ≡ true → AreArcs left
 arcs_of [] e = absurd cc
 arcs_of (counted ∷ rows) e =
     let split = ends (arcs_stated counted) rows (eqb-true _ _ e) in
-    record { counted = counted; arcs = split.0; last = split.1; left_are = ap (λ (zs : List Row). counted ∷ zs) split.2.0; complete = split.2.1 }
+    record {
+      counted = counted;
+      arcs = split.0;
+      last = split.1;
+      left_are = ap (λ (zs : List Row). counted ∷ zs) split.2.0;
+      complete = split.2.1;
+    }
 
 pub parts_of : (all : List Row) → is_graph_complete all ≡ true → AreParts all
 parts_of [] e = absurd cc
@@ -114,7 +123,8 @@ parts_of (header ∷ counted ∷ rows) e =
       arcs_counted = arcs.counted;
       arcs = arcs.arcs;
       last = arcs.last;
-      all_are = ap (λ (zs : List Row). header ∷ counted ∷ zs) (sym (take-append-drop n rows) ∙ ap (λ (zs : List Row). take n rows ++ zs) arcs.left_are);
+      all_are = ap (λ (zs : List Row). header ∷ counted ∷ zs)
+          (sym (take-append-drop n rows) ∙ ap (λ (zs : List Row). take n rows ++ zs) arcs.left_are);
       whole = length-take-le n rows long;
       complete = arcs.complete;
     }
@@ -140,10 +150,14 @@ module _ (header counted arcs_counted last : Row) (rows arcs : List Row) (whole 
   task_at_passed : (i : ℕ) (d : Row) → i < length rows → IsTaskOn (extras_of (take i rows)) (task_on_row (get_or rows i d))
   task_at_passed i d lt =
       let row = get_or rows i d in
-      let split : rows ++ arcs_counted ∷ (arcs ++ last ∷ []) ≡ take i rows ++ row ∷ (drop (i + 1) rows ++ arcs_counted ∷ (arcs ++ last ∷ [])) =
-      ap (λ (xs : List Row). xs ++ arcs_counted ∷ (arcs ++ last ∷ [])) (cut rows i d lt) ∙ append_assoc (take i rows) (row ∷ drop (i + 1) rows) (arcs_counted ∷ (arcs ++ last ∷ [])) in
-      let none = passed (header ∷ counted ∷ take i rows) (drop (i + 1) rows ++ arcs_counted ∷ (arcs ++ last ∷ [])) row (ap (λ (xs : List Row). header ∷ counted ∷ xs) split) in
-      let fewer : ltb (length (take i rows)) (tasks_stated counted) ≡ true = lt-ltb _ _ (omega (arith, length-take-le i rows (omega arith))) in
+      let split :
+      rows ++ arcs_counted ∷ (arcs ++ last ∷ []) ≡ take i rows ++ row ∷ (drop (i + 1) rows ++ arcs_counted ∷ (arcs ++ last ∷ [])) =
+      ap (λ (xs : List Row). xs ++ arcs_counted ∷ (arcs ++ last ∷ [])) (cut rows i d lt)
+      ∙ append_assoc (take i rows) (row ∷ drop (i + 1) rows) (arcs_counted ∷ (arcs ++ last ∷ [])) in
+      let none = passed (header ∷ counted ∷ take i rows) (drop (i + 1) rows ++ arcs_counted ∷ (arcs ++ last ∷ [])) row
+      (ap (λ (xs : List Row). header ∷ counted ∷ xs) split) in
+      let fewer : ltb (length (take i rows)) (tasks_stated counted) ≡ true =
+      lt-ltb _ _ (omega (arith, length-take-le i rows (omega arith))) in
       task_passed _ row (rw fewer at none)
 
   arcs_few : arcs_stated arcs_counted ≤ most_arcs
@@ -151,7 +165,8 @@ module _ (header counted arcs_counted last : Row) (rows arcs : List Row) (whole 
       let none = passed (header ∷ counted ∷ rows) (arcs ++ last ∷ []) arcs_counted refl in
       let past : ltb (length rows) (tasks_stated counted) ≡ false = grind arith in
       let nothing : drop (tasks_stated counted) rows ≡ [] = drop_past in
-      let tests : first_failure (arc_part_tests (tasks_stated counted) (extras_of (take (tasks_stated counted) rows)) [] arcs_counted) ≡ None = rw (past, nothing) at none in
+      let tests : first_failure (arc_part_tests (tasks_stated counted) (extras_of (take (tasks_stated counted) rows)) [] arcs_counted)
+      ≡ None = rw (past, nothing) at none in
       let one = passes _ _ _ tests in
       let two = passes _ _ _ one.1 in
       let three = passes _ _ _ two.1 in
@@ -163,16 +178,20 @@ module _ (header counted arcs_counted last : Row) (rows arcs : List Row) (whole 
         drop_own [] = refl
         drop_own (x ∷ xs) = drop_own xs
 
-  arc_at_passed : (i : ℕ) (d : Row) → i < length arcs → IsArcOn (tasks_stated counted) (extras_of rows + sizes_of (take i arcs)) (arc_of (get_or arcs i d))
+  arc_at_passed : (i : ℕ) (d : Row) → i < length arcs
+      → IsArcOn (tasks_stated counted) (extras_of rows + sizes_of (take i arcs)) (arc_of (get_or arcs i d))
   arc_at_passed i d lt =
       let row = get_or arcs i d in
       let before = rows ++ arcs_counted ∷ take i arcs in
       let inner : arcs ++ last ∷ [] ≡ take i arcs ++ row ∷ (drop (i + 1) arcs ++ last ∷ []) =
       ap (λ (xs : List Row). xs ++ last ∷ []) (cut arcs i d lt) ∙ append_assoc (take i arcs) (row ∷ drop (i + 1) arcs) (last ∷ []) in
       let split : rows ++ arcs_counted ∷ (arcs ++ last ∷ []) ≡ before ++ row ∷ (drop (i + 1) arcs ++ last ∷ []) =
-      ap (λ (xs : List Row). rows ++ arcs_counted ∷ xs) inner ∙ sym (append_assoc rows (arcs_counted ∷ take i arcs) (row ∷ (drop (i + 1) arcs ++ last ∷ []))) in
-      let none = passed (header ∷ counted ∷ before) (drop (i + 1) arcs ++ last ∷ []) row (ap (λ (xs : List Row). header ∷ counted ∷ xs) split) in
-      let fewer : ltb (length (take i arcs)) (arcs_stated arcs_counted) ≡ true = lt-ltb _ _ (omega (arith, length-take-le i arcs (omega arith))) in
+      ap (λ (xs : List Row). rows ++ arcs_counted ∷ xs) inner
+      ∙ sym (append_assoc rows (arcs_counted ∷ take i arcs) (row ∷ (drop (i + 1) arcs ++ last ∷ []))) in
+      let none =
+      passed (header ∷ counted ∷ before) (drop (i + 1) arcs ++ last ∷ []) row (ap (λ (xs : List Row). header ∷ counted ∷ xs) split) in
+      let fewer : ltb (length (take i arcs)) (arcs_stated arcs_counted) ≡ true =
+      lt-ltb _ _ (omega (arith, length-take-le i arcs (omega arith))) in
       let tests : first_failure (arc_part_tests (tasks_stated counted) (extras_of rows) (arcs_counted ∷ take i arcs) row) ≡ None =
       sym (ap first_failure (past_tasks (tasks_stated counted) rows arcs_counted (take i arcs) row whole)) ∙ none in
       arc_passed _ _ row (rw fewer at tests)
@@ -200,7 +219,8 @@ module _ (header counted arcs_counted last : Row) (rows arcs : List Row) (whole 
       let short : i < length arcs = omega (arith, length-map arcs arc_of, lt) in
       let row : Row = record { number = 0; tokens = [] } in
       let n : tasks_stated counted ≡ length (map task_on_row rows) = omega (arith, whole, length-map rows task_on_row) in
-      rw (get_or-map arc_of arcs i row d short) (subst (λ (k : ℕ). IsArcWithin k (arc_of (get_or arcs i row))) n (arc_at_passed i row short).within)
+      rw (get_or-map arc_of arcs i row d short)
+      (subst (λ (k : ℕ). IsArcWithin k (arc_of (get_or arcs i row))) n (arc_at_passed i row short).within)
 
   -- the sum up to the last of the lines is within the total
   extras_within : extras_of rows ≤ most_total

@@ -14,7 +14,8 @@ use Rattle.graph_files.specs.GraphFile.{IsGraphRefusal}
 use Rattle.graph_files.specs.Stated.{IsStated}
 
 -- tasks and arcs that the lines of a file state, and the numbers of the lines that state the tasks
-module _ (bytes : List ℕ) (tasks : List Task) (arcs : List Arc) (lines : List ℕ) (stated : IsStated bytes (record { tasks = tasks; arcs = arcs }) lines) where
+module _ (bytes : List ℕ) (tasks : List Task) (arcs : List Arc) (lines : List ℕ)
+    (stated : IsStated bytes (record { tasks = tasks; arcs = arcs }) lines) where
   pub refuses-cycle : (task : ℕ) (refusal : Refusal GraphKind) → refusal ≡ fault_at (get_or lines (task - 1) 0) kinds.Cycle
       → IsGraphFault (record { tasks = tasks; arcs = arcs }) (faults.Cycle task) → IsGraphRefusal bytes refusal
   refuses-cycle task refusal e fault =

@@ -10,8 +10,11 @@ use Rattle.mp_text.specs.Reading.{Follows, tested}
 use Rattle.mp_text.specs.ReadingLaws.{tested-follows}
 use Rattle.mp_system.specs.System.{extra_size}
 use Rattle.graphs.specs.Graph.{arc_size}
-use Rattle.graph_files.specs.GraphFile.{graph_format, graph_line_tests, graph_end_tests, graph_header_tests, task_count_tests, tasks_stated, arc_count_tests, arcs_stated, task_tests, task_on_row, extras_of, arc_tests, arc_of, sizes_of, arc_part_tests, graph_body_tests, is_graph_complete}
-use Rattle.graph_files.specs.Reader.{ReaderState, IsFresh, TookTasks, TookArcs, staged_step, staged_end, staged_took, tasks_step, arcs_step, with_task, with_arc, graph_step, graph_end, took}
+use Rattle.graph_files.specs.GraphFile.{graph_format, graph_line_tests, graph_end_tests, graph_header_tests, task_count_tests}
+use Rattle.graph_files.specs.GraphFile.{tasks_stated, arc_count_tests, arcs_stated, task_tests, task_on_row, extras_of, arc_tests}
+use Rattle.graph_files.specs.GraphFile.{arc_of, sizes_of, arc_part_tests, graph_body_tests, is_graph_complete}
+use Rattle.graph_files.specs.Reader.{ReaderState, IsFresh, TookTasks, TookArcs, staged_step, staged_end, staged_took}
+use Rattle.graph_files.specs.Reader.{tasks_step, arcs_step, with_task, with_arc, graph_step, graph_end, took}
 use Rattle.graph_files.specs.declared.kind.GraphKind.{GraphKind}
 use Rattle.graph_files.specs.declared.kind.GraphKind.TheVariants as kinds
 use Rattle.graph_files.specs.declared.stage.Stage.{Stage}
@@ -27,7 +30,11 @@ at_header : (s : ReaderState) (row : Row) → IsFresh s →
     Follows (graph_header_tests row) (IsNext (row ∷ [])) (tested (graph_header_tests row) (record s { stage = stages.TaskCount }))
 unfolding IsNext
 at_header s row fresh = tested-follows (graph_header_tests row) _ _ (λ _. (
-  record { header = row; rows_are = refl; fresh = record { tasks = fresh.tasks; lines = fresh.lines; arcs = fresh.arcs; total = fresh.total } },
+  record {
+    header = row;
+    rows_are = refl;
+    fresh = record { tasks = fresh.tasks; lines = fresh.lines; arcs = fresh.arcs; total = fresh.total };
+  },
   refl,
 ))
 
@@ -60,7 +67,8 @@ more_tasks s counted row rows taken lt = record {
 
 at_task : (s : ReaderState) (header counted row : Row) (rows : List Row) → s.stage ≡ stages.Tasks → TookTasks s counted rows
     → s.total ≡ extras_of rows → s.arcs ≡ [] → length rows < tasks_stated counted →
-    Follows (task_tests (extras_of rows) row) (IsNext (header ∷ counted ∷ (rows ++ row ∷ []))) (tested (task_tests s.total row) (with_task s row))
+    Follows (task_tests (extras_of rows) row) (IsNext (header ∷ counted ∷ (rows ++ row ∷ [])))
+    (tested (task_tests s.total row) (with_task s row))
 unfolding IsNext
 at_task s header counted row rows stage taken total none lt =
     let tests = task_tests (extras_of rows) row in
@@ -82,7 +90,8 @@ at_task s header counted row rows stage taken total none lt =
     )))
 
 -- the line with the number of arcs
-at_arc_count : (s : ReaderState) (header counted row : Row) (rows : List Row) → TookTasks s counted rows → s.total ≡ extras_of rows → s.arcs ≡ []
+at_arc_count : (s : ReaderState) (header counted row : Row) (rows : List Row)
+    → TookTasks s counted rows → s.total ≡ extras_of rows → s.arcs ≡ []
     → length rows ≡ tasks_stated counted →
     Follows (arc_count_tests row) (IsNext (header ∷ counted ∷ (rows ++ row ∷ [])))
     (tested (arc_count_tests row) (record s { stage = stages.Arcs; arc_count = arcs_stated row }))
@@ -211,7 +220,8 @@ at_arcs s header counted arcs_counted row rows arcs stage taken = go (nat_lt (le
       (IsNext (header ∷ counted ∷ (rows ++ arcs_counted ∷ (arcs ++ row ∷ [])))) (arcs_step s row)
   go true e = rw (same, e) (at_arc s header counted arcs_counted row rows arcs stage taken (ltb-true _ _ e))
   go false e =
-      let complete : length arcs ≡ arcs_stated arcs_counted = omega (arith, ltb-false (length arcs) (arcs_stated arcs_counted) e, taken.few) in
+      let complete : length arcs ≡ arcs_stated arcs_counted =
+      omega (arith, ltb-false (length arcs) (arcs_stated arcs_counted) e, taken.few) in
       let none_left : drop (arcs_stated arcs_counted) arcs ≡ [] = drop_all (arcs_stated arcs_counted) arcs (omega arith) in
       rw (same, e, none_left) (at_last s header counted arcs_counted row rows arcs taken complete)
 
@@ -227,7 +237,8 @@ at_end counted arcs_counted last row rows arcs whole complete P =
 -- the lines before with one line more at their end
 one_more : (header counted arcs_counted row : Row) (rows arcs : List Row)
     → (header ∷ counted ∷ (rows ++ arcs_counted ∷ arcs)) ++ row ∷ [] ≡ header ∷ counted ∷ (rows ++ arcs_counted ∷ (arcs ++ row ∷ []))
-one_more header counted arcs_counted row rows arcs = ap (λ (rs : List Row). header ∷ counted ∷ rs) (append_assoc rows (arcs_counted ∷ arcs) (row ∷ []))
+one_more header counted arcs_counted row rows arcs =
+    ap (λ (rs : List Row). header ∷ counted ∷ rs) (append_assoc rows (arcs_counted ∷ arcs) (row ∷ []))
 
 staged_step_follows : (stage : Stage) (s : ReaderState) (before : List Row) (row : Row) → s.stage ≡ stage → staged_took stage s before →
     Follows (graph_line_tests before row) (IsNext (before ++ row ∷ [])) (staged_step stage s row)
@@ -281,7 +292,8 @@ staged_end_follows stages.Arcs s rows past e taken =
     ne_eqb _ _ (let w = taken.taken.few in omega arith) in
     rw (taken.rows_are, left, missing) refl
 staged_end_follows stages.Ended s rows past e taken =
-    let left = drop_at taken.task_rows (taken.arcs_counted ∷ (taken.arc_rows ++ taken.last ∷ [])) (tasks_stated taken.counted) taken.taken.whole in
+    let left = drop_at taken.task_rows (taken.arcs_counted ∷ (taken.arc_rows ++ taken.last ∷ []))
+    (tasks_stated taken.counted) taken.taken.whole in
     let all : (length (taken.arc_rows ++ taken.last ∷ []) == arcs_stated taken.arcs_counted + 1) ≡ true =
     eq-eqb _ _ (let w = taken.complete in omega (arith, length_push taken.arc_rows taken.last)) in
     let complete : is_graph_complete rows ≡ true = rw (taken.rows_are, left, all) refl in

@@ -1,5 +1,6 @@
 -- The arcs that complete a graph change no traversal and no memory: each has size 0, and leads from no task or to none.
-use Rattle.std.proofs.Common.{◌≡◌, ℕ, ◌+◌, ◌-◌, Bool, true, not, ◌&&◌, max, List, [], ◌∷◌, ◌++◌, length, map, refl, sym, ap, ◌∙◌, arith, inl, inr, ◌⊎◌}
+use Rattle.std.proofs.Common.{◌≡◌, ℕ, ◌+◌, ◌-◌, Bool, true, not, ◌&&◌, max, List, [], ◌∷◌}
+use Rattle.std.proofs.Common.{◌++◌, length, map, refl, sym, ap, ◌∙◌, arith, inl, inr, ◌⊎◌}
 use Rattle.std.specs.Prelude.{◌||◌}
 use Rattle.std.specs.List.{list_all}
 use Rattle.std.proofs.lemmas.List.{map-append}
@@ -35,18 +36,26 @@ idle-last (v ∷ vs) = (record { size = refl; ends = inr refl }, idle-last vs)
 
 added-idle : (n : ℕ) (arcs : List Arc) → AreIdle (added_arcs n arcs)
 added-idle n arcs =
-    idle-append (map (λ v. arc_between 0 v) (without_into n arcs)) (map (λ v. arc_between v 0) (without_out n arcs)) (idle-first (without_into n arcs)) (idle-last (without_out n arcs))
+    idle-append (map (λ v. arc_between 0 v) (without_into n arcs)) (map (λ v. arc_between v 0) (without_out n arcs))
+    (idle-first (without_into n arcs)) (idle-last (without_out n arcs))
 
 -- ---- sizes
 
 idle-sizes : (test : Item → Bool) (xs : List Arc) → AreIdle xs → size_where test (map item_of_arc xs) ≡ 0
 idle-sizes test [] h = refl
 idle-sizes test (x ∷ xs) h =
-    omega (arith, sum_by-cons (size_if test) (item_of_arc x) (map item_of_arc xs), cond_zero (test (item_of_arc x)) x.size h.0.size, idle-sizes test xs h.1)
+    omega (
+      arith,
+      sum_by-cons (size_if test) (item_of_arc x) (map item_of_arc xs),
+      cond_zero (test (item_of_arc x)) x.size h.0.size,
+      idle-sizes test xs h.1,
+    )
 
-sizes-same : (test : Item → Bool) (xs ys : List Arc) → AreIdle ys → size_where test (map item_of_arc (xs ++ ys)) ≡ size_where test (map item_of_arc xs)
+sizes-same : (test : Item → Bool) (xs ys : List Arc) → AreIdle ys
+    → size_where test (map item_of_arc (xs ++ ys)) ≡ size_where test (map item_of_arc xs)
 sizes-same test xs ys h =
-    ap (size_where test) (map-append item_of_arc xs ys) ∙ (let e = sum_by-append (size_if test) (map item_of_arc xs) (map item_of_arc ys) in omega (arith, e, idle-sizes test ys h))
+    ap (size_where test) (map-append item_of_arc xs ys)
+    ∙ (let e = sum_by-append (size_if test) (map item_of_arc xs) (map item_of_arc ys) in omega (arith, e, idle-sizes test ys h))
 
 -- ---- waiting
 
@@ -63,7 +72,8 @@ all-idle : (done : ℕ → Bool) (v : ℕ) (ys : List Arc) → AreIdle ys → li
 all-idle done v [] h = refl
 all-idle done v (y ∷ ys) h = rw (idle-lets done v y h.0) (all-idle done v ys h.1)
 
-ready-same : (done : ℕ → Bool) (v : ℕ) (xs ys : List Arc) → AreIdle ys → list_all (lets done v) (map item_of_arc (xs ++ ys)) ≡ list_all (lets done v) (map item_of_arc xs)
+ready-same : (done : ℕ → Bool) (v : ℕ) (xs ys : List Arc) → AreIdle ys
+    → list_all (lets done v) (map item_of_arc (xs ++ ys)) ≡ list_all (lets done v) (map item_of_arc xs)
 ready-same done v [] ys h = all-idle done v ys h
 ready-same done v (x ∷ xs) ys h = ap (λ b. lets done v (item_of_arc x) && b) (ready-same done v xs ys h)
 
@@ -83,11 +93,13 @@ module _ (graph : TaskGraph) where
   state done = where-same (is_present done)
 
   running : (done : ℕ → Bool) (v : ℕ) → running_memory (completed_system graph) done v ≡ running_memory (own_system graph) done v
-  running done v = λ i. state done i + ((task_at (own_system graph) v).extra + where-same (is_output v) i - (task_at (own_system graph) v).share)
+  running done v =
+      λ i. state done i + ((task_at (own_system graph) v).extra + where-same (is_output v) i - (task_at (own_system graph) v).share)
 
   peak_after : (before rest : List ℕ) → peak_from (completed_system graph) before rest ≡ peak_from (own_system graph) before rest
   peak_after before [] = state (stands_in before)
-  peak_after before (v ∷ rest) = λ i. max (state (stands_in before) i) (max (running (stands_in before) v i) (peak_after (before ++ v ∷ []) rest i))
+  peak_after before (v ∷ rest) =
+      λ i. max (state (stands_in before) i) (max (running (stands_in before) v i) (peak_after (before ++ v ∷ []) rest i))
 
   pub peak-same : (order : List ℕ) → peak_of (completed_system graph) order ≡ peak_of (own_system graph) order
   peak-same order = peak_after [] order

@@ -1,5 +1,6 @@
 -- Of so many tasks, each can be ordered or not: a list of tasks, each after its suppliers, grows until no task can follow.
-use Rattle.std.proofs.Common.{◌≡◌, ℕ, zero, suc, ◌+◌, ◌<◌, Bool, true, false, cond, not, ◌&&◌, eqb, eq-eqb, List, [], ◌∷◌, ◌++◌, get_or, refl, sym, subst, ◌∙◌, arith, inl, inr, ◌⊎◌}
+use Rattle.std.proofs.Common.{◌≡◌, ℕ, zero, suc, ◌+◌, ◌<◌, Bool, true, false, cond, not, ◌&&◌, eqb, eq-eqb}
+use Rattle.std.proofs.Common.{List, [], ◌∷◌, ◌++◌, get_or, refl, sym, subst, ◌∙◌, arith, inl, inr, ◌⊎◌}
 use Rattle.std.specs.List.{count_by, range_with_len, All}
 use Rattle.std.proofs.lemmas.List.Sums.{sum_by-cons}
 use Rattle.std.proofs.lemmas.Bool.{cases_eq, cases_lt, cases_Bool, ne_eqb, eqb-true, and_parts, not-true, true_from_ne_false}
@@ -23,7 +24,8 @@ left n list = count_by (is_left list) (range_with_len 1 n)
 one-left : (list : List ℕ) (w v : ℕ) → stands_in list w ≡ false
     → cond {A = ℕ} (is_left list v) 1 0 ≡ cond {A = ℕ} (eqb w v) 1 0 + cond {A = ℕ} (is_left (list ++ w ∷ []) v) 1 0
 one-left list w v new = elim (cases_eq w v) [
-  | inl e ↦ subst (λ (u : ℕ). cond {A = ℕ} (is_left list u) 1 0 ≡ cond {A = ℕ} (eqb w u) 1 0 + cond {A = ℕ} (is_left (list ++ w ∷ []) u) 1 0) e
+  | inl e ↦
+      subst (λ (u : ℕ). cond {A = ℕ} (is_left list u) 1 0 ≡ cond {A = ℕ} (eqb w u) 1 0 + cond {A = ℕ} (is_left (list ++ w ∷ []) u) 1 0) e
       (rw (new, stands-new list w, eq-eqb w w refl) (omega arith))
   | inr ne ↦ rw (stands-other list w v (λ e. ne (sym e)), ne_eqb w v ne) (omega arith)
 ]
@@ -43,7 +45,8 @@ fewer list w new (x ∷ xs) =
 
 -- ---- the list grows
 
-supplied-push : (arcs : List Arc) (list : List ℕ) (w : ℕ) → AreSupplied arcs list → IsSupplied arcs list w → AreSupplied arcs (list ++ w ∷ [])
+supplied-push : (arcs : List Arc) (list : List ℕ) (w : ℕ) → AreSupplied arcs list
+    → IsSupplied arcs list w → AreSupplied arcs (list ++ w ∷ [])
 supplied-push arcs list w h own = record {
   each = λ before rest v split. elim (push-split list w before v rest split) [
     | inl last ↦ subst (IsSupplied arcs before) last.1 (subst (λ (xs : List ℕ). IsSupplied arcs xs w) last.0 own)
@@ -82,7 +85,8 @@ grow n arcs (suc m) list sup few = elim (cases_lt 0 (count_by (is_next arcs list
       )
 ]
 
-pub ordered_or_not : (n : ℕ) (arcs : List Arc) → All (IsArcWithin n) arcs → (v : ℕ) → IsAmong n v → CanBeOrdered arcs v ⊎ (CanBeOrdered arcs v → ⊥)
+pub ordered_or_not : (n : ℕ) (arcs : List Arc) → All (IsArcWithin n) arcs
+    → (v : ℕ) → IsAmong n v → CanBeOrdered arcs v ⊎ (CanBeOrdered arcs v → ⊥)
 ordered_or_not n arcs within v among =
     let g = grow n arcs (suc (left n [])) [] (nothing-supplied arcs) (omega arith) in
     elim (cases_Bool (stands_in g.list v)) [

@@ -1,8 +1,10 @@
 -- The queue of tasks that can be ordered, one task and one arc more at a time.
-use Rattle.std.proofs.Common.{◌≡◌, ◌≢◌, ℕ, zero, suc, ◌+◌, ◌-◌, ◌<◌, ◌≤◌, Bool, true, false, cond, not, ◌&&◌, eqb, List, [], ◌∷◌, ◌++◌, length, take, drop, get_or, set, map, refl, sym, ap, subst, ◌∙◌, arith, inl, inr, ◌⊎◌, eq-eqb, append_assoc}
+use Rattle.std.proofs.Common.{◌≡◌, ◌≢◌, ℕ, zero, suc, ◌+◌, ◌-◌, ◌<◌, ◌≤◌, Bool, true, false, cond, not, ◌&&◌, eqb, List, [], ◌∷◌, ◌++◌}
+use Rattle.std.proofs.Common.{length, take, drop, get_or, set, map, refl, sym, ap, subst, ◌∙◌, arith, inl, inr, ◌⊎◌, eq-eqb, append_assoc}
 use Rattle.std.specs.Prelude.{◌||◌}
 use Rattle.std.specs.List.{count_by, sum, All}
-use Rattle.std.proofs.lemmas.List.{length-set, length-append, length_push, get_or-set_same, get_or-set_other, take_more, take_all, take-append-le, drop_more, take-append-drop, length-map, length-take-le, get_or_read, get_or-take}
+use Rattle.std.proofs.lemmas.List.{length-set, length-append, length_push, get_or-set_same, get_or-set_other, take_more, take_all}
+use Rattle.std.proofs.lemmas.List.{take-append-le, drop_more, take-append-drop, length-map, length-take-le, get_or_read, get_or-take}
 use Rattle.std.proofs.Math.Seq.{get_or-append_seam}
 use Rattle.std.proofs.lemmas.List.Elements.{All-push, All-nil}
 use Rattle.std.proofs.lemmas.List.Folds.{list_any-append}
@@ -49,7 +51,8 @@ supplied arcs done queue v none more i d lt to_v some =
 
 -- where one is waited for, its supplier has not run
 pub unsupplied : (arcs : List Arc) (done : List ℕ) (v : ℕ) → 1 ≤ waits_of arcs done v
-    → (i : ℕ) × (i < length arcs) × ((get_or arcs i no_arc).to ≡ v) × (1 ≤ (get_or arcs i no_arc).from) × (stands_in done (get_or arcs i no_arc).from ≡ false)
+    → (i : ℕ) × (i < length arcs) × ((get_or arcs i no_arc).to ≡ v)
+    × (1 ≤ (get_or arcs i no_arc).from) × (stands_in done (get_or arcs i no_arc).from ≡ false)
 unsupplied arcs done v some =
     let r = count-some (is_wait done v) no_arc arcs some in
     let arc = get_or arcs r.0 no_arc in
@@ -73,13 +76,15 @@ stands-other done u v ne =
     or_no false = refl
 
 one-wait : (done : List ℕ) (u v : ℕ) (arc : Arc) → stands_in done u ≡ false → 1 ≤ u
-    → cond {A = ℕ} (is_wait done v arc) 1 0 ≡ cond {A = ℕ} (eqb arc.to v && eqb arc.from u) 1 0 + cond {A = ℕ} (is_wait (done ++ u ∷ []) v arc) 1 0
+    → cond {A = ℕ} (is_wait done v arc) 1 0
+    ≡ cond {A = ℕ} (eqb arc.to v && eqb arc.from u) 1 0 + cond {A = ℕ} (is_wait (done ++ u ∷ []) v arc) 1 0
 one-wait done u v arc none some = elim (cases_eq arc.from u) [
   | inl e ↦ (let missing : stands_in done arc.from ≡ false = ap (stands_in done) e ∙ none in
       let there : stands_in (done ++ u ∷ []) arc.from ≡ true = ap (stands_in (done ++ u ∷ [])) e ∙ stands-new done u in
       let ne : eqb arc.from 0 ≡ false = ne_eqb arc.from 0 (λ z. absurd (omega (arith, some, e, z))) in
       rw (missing, there, ne, eq-eqb arc.from u e) (here (eqb arc.to v)))
-  | inr ne ↦ rw (stands-other done u arc.from ne, ne_eqb arc.from u ne) (there (eqb arc.to v) (not (eqb arc.from 0) && not (stands_in done arc.from)))
+  | inr ne ↦ rw (stands-other done u arc.from ne, ne_eqb arc.from u ne)
+      (there (eqb arc.to v) (not (eqb arc.from 0) && not (stands_in done arc.from)))
 ]
   where
     here : (b : Bool) → cond {A = ℕ} (b && true) 1 0 ≡ cond {A = ℕ} (b && true) 1 0 + cond {A = ℕ} (b && false) 1 0
@@ -108,7 +113,8 @@ waits-split (arc ∷ arcs) done u v none some =
 abbrev Each : List Arc → List ℕ → Type 0
 Each arcs queue = (before rest : List ℕ) (v : ℕ) → queue ≡ before ++ v ∷ rest → IsSupplied arcs before v × (stands_in before v ≡ false)
 
-each-push : (arcs : List Arc) (queue : List ℕ) (w : ℕ) → Each arcs queue → IsSupplied arcs queue w → stands_in queue w ≡ false → Each arcs (queue ++ w ∷ [])
+each-push : (arcs : List Arc) (queue : List ℕ) (w : ℕ) → Each arcs queue
+    → IsSupplied arcs queue w → stands_in queue w ≡ false → Each arcs (queue ++ w ∷ [])
 each-push arcs queue w each sup new before rest v split = elim (push-split queue w before v rest split) [
   | inl last ↦ subst (λ (u : ℕ). IsSupplied arcs before u × (stands_in before u ≡ false)) last.1
       (subst (λ (xs : List ℕ). IsSupplied arcs xs w × (stands_in xs w ≡ false)) last.0 (sup, new))
@@ -147,7 +153,8 @@ absent v xs h = false_from_ne_true (stands_in xs v) none where
       let k = h (length p.before) 0 (omega (arith, ap length p.is, length-append p.before (v ∷ p.rest))) in
       omega (arith, k.1, ap (λ (ys : List ℕ). get_or ys (length p.before) 0) p.is, at)
 
-pub first-skip : (n : ℕ) (arcs : List Arc) (waits queue : List ℕ) (v : ℕ) → IsFirst n arcs waits queue v → get_or waits v 0 ≢ 0 → IsFirst n arcs waits queue (v + 1)
+pub first-skip : (n : ℕ) (arcs : List Arc) (waits queue : List ℕ) (v : ℕ)
+    → IsFirst n arcs waits queue v → get_or waits v 0 ≢ 0 → IsFirst n arcs waits queue (v + 1)
 first-skip n arcs waits queue v h some = record {
   within = all-later v queue h.within;
   each = h.each;
@@ -189,7 +196,8 @@ first-taken n arcs waits queue v e h long are = record {
 
 -- ---- one arc more is taken
 
-pub part-none : (n : ℕ) (arcs : List Arc) (waits queue row : List ℕ) (at : ℕ) → IsQueueTaken n arcs waits queue at → at < length queue → IsPartTaken n arcs waits queue at row 0
+pub part-none : (n : ℕ) (arcs : List Arc) (waits queue row : List ℕ) (at : ℕ)
+    → IsQueueTaken n arcs waits queue at → at < length queue → IsPartTaken n arcs waits queue at row 0
 part-none n arcs waits queue row at h lt = record { queued = h.queued; short = lt; waits_are = λ v le. omega (arith, h.waits_are v le) }
 
 module _ (n : ℕ) (arcs : List Arc) (waits queue : List ℕ) (at : ℕ) (row : List ℕ) (j : ℕ) (h : IsPartTaken n arcs waits queue at row j)
@@ -223,7 +231,9 @@ module _ (n : ℕ) (arcs : List Arc) (waits queue : List ℕ) (at : ℕ) (row : 
       waits-split arcs (take at queue) (get_or queue at 0) v new_u some_u
       ∙ (λ i. sym (is_row.heads v) i + waits_of arcs (sym (take_more queue at 0 h.short) i) v)
 
-  more : (v : ℕ) → heads_among arcs (take (j + 1) row) v ≡ heads_among arcs (take j row) v + cond {A = ℕ} (eqb (arc_at arcs (get_or row j 0)).to v) 1 0
+  more : (v : ℕ)
+      → heads_among arcs (take (j + 1) row) v
+      ≡ heads_among arcs (take j row) v + cond {A = ℕ} (eqb (arc_at arcs (get_or row j 0)).to v) 1 0
   more v = sum_by_more (λ (i : ℕ). cond {A = ℕ} (eqb (arc_at arcs i).to v) 1 0) row j 0 lt
 
   part : (v : ℕ) → heads_among arcs (take (j + 1) row) v ≤ heads_among arcs row v
@@ -248,12 +258,17 @@ module _ (n : ℕ) (arcs : List Arc) (waits queue : List ℕ) (at : ℕ) (row : 
     pub at_to : get_or (set waits (arc_at arcs (get_or row j 0)).to w) (arc_at arcs (get_or row j 0)).to 0 ≡ w
     at_to = get_or-set_same waits (arc_at arcs (get_or row j 0)).to w 0 (omega (arith, to-within, h.queued.long))
 
-    at_other : (v : ℕ) → v ≢ (arc_at arcs (get_or row j 0)).to → get_or (set waits (arc_at arcs (get_or row j 0)).to w) v 0 ≡ get_or waits v 0
+    at_other : (v : ℕ) → v ≢ (arc_at arcs (get_or row j 0)).to
+        → get_or (set waits (arc_at arcs (get_or row j 0)).to w) v 0 ≡ get_or waits v 0
     at_other v ne = get_or-set_other waits (arc_at arcs (get_or row j 0)).to v w 0 ne
 
-    still : (v : ℕ) → v ≤ n → get_or (set waits (arc_at arcs (get_or row j 0)).to w) v 0 + heads_among arcs (take (j + 1) row) v ≡ waits_of arcs (take at queue) v
+    still : (v : ℕ) → v ≤ n
+        → get_or (set waits (arc_at arcs (get_or row j 0)).to w) v 0 + heads_among arcs (take (j + 1) row) v
+        ≡ waits_of arcs (take at queue) v
     still v le = elim (cases_eq v (arc_at arcs (get_or row j 0)).to) [
-      | inl e ↦ (let here : get_or (set waits (arc_at arcs (get_or row j 0)).to w) v 0 ≡ w = ap (λ (x : ℕ). get_or (set waits (arc_at arcs (get_or row j 0)).to w) x 0) e ∙ at_to in
+      | inl e ↦
+          (let here : get_or (set waits (arc_at arcs (get_or row j 0)).to w) v 0 ≡ w =
+          ap (λ (x : ℕ). get_or (set waits (arc_at arcs (get_or row j 0)).to w) x 0) e ∙ at_to in
           let was : get_or waits v 0 ≡ w + 1 = ap (λ (x : ℕ). get_or waits x 0) e ∙ sym w_is in
           omega (arith, here, was, h.waits_are v le, more v, own v (sym e)))
       | inr ne ↦ omega (arith, at_other v ne, h.waits_are v le, more v, foreign v (λ e. ne (sym e)))
@@ -268,7 +283,9 @@ module _ (n : ℕ) (arcs : List Arc) (waits queue : List ℕ) (at : ℕ) (row : 
     long : length (set waits (arc_at arcs (get_or row j 0)).to w) ≡ n + 1
     long = length-set waits (arc_at arcs (get_or row j 0)).to w ∙ h.queued.long
 
-    pub part-keep : (((arc_at arcs (get_or row j 0)).to ≡ 0) ⊎ (get_or (set waits (arc_at arcs (get_or row j 0)).to w) (arc_at arcs (get_or row j 0)).to 0 ≢ 0)) → IsPartTaken n arcs (set waits (arc_at arcs (get_or row j 0)).to w) queue at row (j + 1)
+    pub part-keep : (((arc_at arcs (get_or row j 0)).to ≡ 0)
+        ⊎ (get_or (set waits (arc_at arcs (get_or row j 0)).to w) (arc_at arcs (get_or row j 0)).to 0 ≢ 0))
+        → IsPartTaken n arcs (set waits (arc_at arcs (get_or row j 0)).to w) queue at row (j + 1)
     part-keep why = record {
       queued = record {
         long = long;
@@ -287,8 +304,10 @@ module _ (n : ℕ) (arcs : List Arc) (waits queue : List ℕ) (at : ℕ) (row : 
       waits_are = still;
     }
 
-    pub part-push : 1 ≤ (arc_at arcs (get_or row j 0)).to → get_or (set waits (arc_at arcs (get_or row j 0)).to w) (arc_at arcs (get_or row j 0)).to 0 ≡ 0
-        → IsPartTaken n arcs (set waits (arc_at arcs (get_or row j 0)).to w) (queue ++ (arc_at arcs (get_or row j 0)).to ∷ []) at row (j + 1)
+    pub part-push : 1 ≤ (arc_at arcs (get_or row j 0)).to
+        → get_or (set waits (arc_at arcs (get_or row j 0)).to w) (arc_at arcs (get_or row j 0)).to 0 ≡ 0
+        → IsPartTaken n arcs (set waits (arc_at arcs (get_or row j 0)).to w)
+        (queue ++ (arc_at arcs (get_or row j 0)).to ∷ []) at row (j + 1)
     part-push some none =
         let t = (arc_at arcs (get_or row j 0)).to in
         let unwaited : waits_of arcs (take (at + 1) queue) t ≡ 0 =
@@ -298,7 +317,8 @@ module _ (n : ℕ) (arcs : List Arc) (waits queue : List ℕ) (at : ℕ) (row : 
           queued = record {
             long = long;
             within = All-push (IsAmong n) queue t h.queued.within (some, to-within);
-            each = each-push arcs queue t h.queued.each (supplied arcs (take (at + 1) queue) queue t unwaited (λ v there. stands-take (at + 1) queue v there)) fresh;
+            each = each-push arcs queue t h.queued.each
+                (supplied arcs (take (at + 1) queue) queue t unwaited (λ v there. stands-take (at + 1) queue v there)) fresh;
             idle = λ v among zero_now. elim (cases_eq v t) [
               | inl e ↦ subst (λ (x : ℕ). stands_in (queue ++ t ∷ []) x ≡ true) (sym e) (stands-new queue t)
               | inr ne ↦ stands-left queue (t ∷ []) v (h.queued.idle v among (sym (at_other v ne) ∙ zero_now))
@@ -309,7 +329,8 @@ module _ (n : ℕ) (arcs : List Arc) (waits queue : List ℕ) (at : ℕ) (row : 
             ];
           };
           short = omega (arith, h.short, length_push queue t);
-          waits_are = λ v le. still v le ∙ ap (λ (xs : List ℕ). waits_of arcs xs v) (sym (take-append-le at queue (t ∷ []) (omega (arith, h.short))));
+          waits_are = λ v le. still v le
+              ∙ ap (λ (xs : List ℕ). waits_of arcs xs v) (sym (take-append-le at queue (t ∷ []) (omega (arith, h.short))));
         }
 
     pub sum-set : sum (set waits (arc_at arcs (get_or row j 0)).to w) + 1 ≡ sum waits
@@ -322,7 +343,8 @@ pub part-all : (n : ℕ) (arcs : List Arc) (waits queue : List ℕ) (at : ℕ) (
     → IsArcRow arcs row (get_or queue at 0) → length row ≤ j → IsQueueTaken n arcs waits queue (at + 1)
 part-all n arcs waits queue at row j h is_row le =
     let u = get_or queue at 0 in
-    let cut : queue ≡ take at queue ++ u ∷ drop (at + 1) queue = sym (take-append-drop at queue) ∙ ap (λ (xs : List ℕ). take at queue ++ xs) (drop_more queue at 0 h.short) in
+    let cut : queue ≡ take at queue ++ u ∷ drop (at + 1) queue =
+    sym (take-append-drop at queue) ∙ ap (λ (xs : List ℕ). take at queue ++ xs) (drop_more queue at 0 h.short) in
     let new_u = (h.queued.each (take at queue) (drop (at + 1) queue) u cut).1 in
     let some_u = (h.queued.within at 0 h.short).0 in
     record {
@@ -330,8 +352,10 @@ part-all n arcs waits queue at row j h is_row le =
       short = omega (arith, h.short);
       waits_are = λ v small.
           let split = waits-split arcs (take at queue) u v new_u some_u in
-          let all : heads_among arcs (take j row) v ≡ heads_among arcs row v = ap (λ (xs : List ℕ). heads_among arcs xs v) (take_all j row le) in
-          let next : waits_of arcs (take at queue ++ u ∷ []) v ≡ waits_of arcs (take (at + 1) queue) v = ap (λ (xs : List ℕ). waits_of arcs xs v) (sym (take_more queue at 0 h.short)) in
+          let all : heads_among arcs (take j row) v ≡ heads_among arcs row v =
+          ap (λ (xs : List ℕ). heads_among arcs xs v) (take_all j row le) in
+          let next : waits_of arcs (take at queue ++ u ∷ []) v ≡ waits_of arcs (take (at + 1) queue) v =
+          ap (λ (xs : List ℕ). waits_of arcs xs v) (sym (take_more queue at 0 h.short)) in
           omega (arith, h.waits_are v small, all, split, is_row.heads v, next);
     }
 
@@ -344,7 +368,8 @@ IsClosed n arcs list = (v : ℕ) → IsAmong n v → waits_of arcs list v ≡ 0 
 module _ (n : ℕ) (arcs : List Arc) (closed_list : List ℕ) (closed : IsClosed n arcs closed_list) (within : All (IsArcWithin n) arcs)
     (list : List ℕ) (sup : AreSupplied arcs list) where
   -- whoever stands in a supplied list stands in a closed one
-  served : (m : ℕ) (before rest : List ℕ) (v : ℕ) → length before < m → list ≡ before ++ v ∷ rest → IsAmong n v → stands_in closed_list v ≡ true
+  served : (m : ℕ) (before rest : List ℕ) (v : ℕ) → length before < m
+      → list ≡ before ++ v ∷ rest → IsAmong n v → stands_in closed_list v ≡ true
   served zero before rest v lt split among = absurd (omega arith)
   served (suc m) before rest v lt split among = elim (cases_lt 0 (waits_of arcs closed_list v)) [
     | inr none ↦ closed v among (omega (arith, none))
@@ -355,21 +380,25 @@ module _ (n : ℕ) (arcs : List Arc) (closed_list : List ℕ) (closed : IsClosed
         let p = place before arc.from stands in
         let earlier : list ≡ p.before ++ arc.from ∷ (p.rest ++ v ∷ rest) =
         split ∙ ap (λ (xs : List ℕ). xs ++ v ∷ rest) p.is ∙ append_assoc p.before (arc.from ∷ p.rest) (v ∷ rest) in
-        let there = served m p.before (p.rest ++ v ∷ rest) arc.from (omega (arith, lt, ap length p.is, length-append p.before (arc.from ∷ p.rest))) earlier (r.3, (within r.0 no_arc r.1).from) in
+        let there = served m p.before (p.rest ++ v ∷ rest) arc.from
+        (omega (arith, lt, ap length p.is, length-append p.before (arc.from ∷ p.rest))) earlier (r.3, (within r.0 no_arc r.1).from) in
         absurd (cc (sym there ∙ r.4))
         )
   ]
 
 -- whoever can be ordered stands in it
-pub ordered-stands : (n : ℕ) (arcs : List Arc) (list : List ℕ) → IsClosed n arcs list → All (IsArcWithin n) arcs → (v : ℕ) → IsAmong n v → CanBeOrdered arcs v → stands_in list v ≡ true
+pub ordered-stands : (n : ℕ) (arcs : List Arc) (list : List ℕ) → IsClosed n arcs list
+    → All (IsArcWithin n) arcs → (v : ℕ) → IsAmong n v → CanBeOrdered arcs v → stands_in list v ≡ true
 ordered-stands n arcs list closed within v among ordered =
     let p = place ordered.list v ordered.stands in
     served n arcs list closed within ordered.list ordered.supplied (suc (length p.before)) p.before p.rest v (omega arith) p.is among
 
 -- the whole queue is taken
-pub judged : (n : ℕ) (arcs : List Arc) (waits queue : List ℕ) (at : ℕ) → IsQueueTaken n arcs waits queue at → length queue ≤ at → All (IsArcWithin n) arcs → AreJudged n arcs waits
+pub judged : (n : ℕ) (arcs : List Arc) (waits queue : List ℕ) (at : ℕ)
+    → IsQueueTaken n arcs waits queue at → length queue ≤ at → All (IsArcWithin n) arcs → AreJudged n arcs waits
 judged n arcs waits queue at h le within =
-    let are : (v : ℕ) → v ≤ n → get_or waits v 0 ≡ waits_of arcs queue v = λ v small. h.waits_are v small ∙ ap (λ (xs : List ℕ). waits_of arcs xs v) (take_all at queue le) in
+    let are : (v : ℕ) → v ≤ n → get_or waits v 0 ≡ waits_of arcs queue v =
+    λ v small. h.waits_are v small ∙ ap (λ (xs : List ℕ). waits_of arcs xs v) (take_all at queue le) in
     let closed : IsClosed n arcs queue = λ v among none. h.queued.idle v among (are v among.1 ∙ none) in
     record {
       long = h.queued.long;
@@ -388,17 +417,21 @@ module _ (u v : ℕ) (g : ℕ → Arc) where
       → count_by (λ k. eqb (g k).to v) (numbers_with (map from_of xs) first u) ≡ count_by (λ (a : Arc). eqb a.to v && eqb a.from u) xs
   heads-row first [] agree = refl
   heads-row first (x ∷ xs) agree =
-      let rest = heads-row (first + 1) xs (λ i lt. (let e : first + 1 + i ≡ first + suc i = omega arith in ap g e) ∙ agree (suc i) (omega arith)) in
+      let rest = heads-row (first + 1) xs
+      (λ i lt. (let e : first + 1 + i ≡ first + suc i = omega arith in ap g e) ∙ agree (suc i) (omega arith)) in
       let here : g first ≡ x = (let e : first ≡ first + 0 = omega arith in ap g e) ∙ agree 0 (omega arith) in
       go (eqb x.from u) refl here rest
     where
       go : (b : Bool) → eqb x.from u ≡ b → g first ≡ x
-          → count_by (λ k. eqb (g k).to v) (numbers_with (map from_of xs) (first + 1) u) ≡ count_by (λ (a : Arc). eqb a.to v && eqb a.from u) xs
-          → count_by (λ k. eqb (g k).to v) (numbers_with (map from_of (x ∷ xs)) first u) ≡ count_by (λ (a : Arc). eqb a.to v && eqb a.from u) (x ∷ xs)
+          → count_by (λ k. eqb (g k).to v) (numbers_with (map from_of xs) (first + 1) u)
+          ≡ count_by (λ (a : Arc). eqb a.to v && eqb a.from u) xs
+          → count_by (λ k. eqb (g k).to v) (numbers_with (map from_of (x ∷ xs)) first u)
+          ≡ count_by (λ (a : Arc). eqb a.to v && eqb a.from u) (x ∷ xs)
       go true e here rest =
           let c = sum_by-cons (λ (a : Arc). cond {A = ℕ} (eqb a.to v && eqb a.from u) 1 0) x xs in
           let d = sum_by-cons (λ k. cond {A = ℕ} (eqb (g k).to v) 1 0) first (numbers_with (map from_of xs) (first + 1) u) in
-          let one : cond {A = ℕ} (eqb x.to v && eqb x.from u) 1 0 ≡ cond {A = ℕ} (eqb (g first).to v) 1 0 = rw (e, here) (yes (eqb x.to v)) in
+          let one : cond {A = ℕ} (eqb x.to v && eqb x.from u) 1 0 ≡ cond {A = ℕ} (eqb (g first).to v) 1 0 =
+          rw (e, here) (yes (eqb x.to v)) in
           let list : numbers_with (map from_of (x ∷ xs)) first u ≡ first ∷ numbers_with (map from_of xs) (first + 1) u = rw e refl in
           ap (count_by (λ k. eqb (g k).to v)) list ∙ omega (arith, c, d, one, rest)
         where
@@ -415,10 +448,13 @@ module _ (u v : ℕ) (g : ℕ → Arc) where
           no true = refl
           no false = refl
 
-pub row-heads : (arcs : List Arc) (u v : ℕ) → heads_among arcs (numbers_with (map from_of arcs) 0 u) v ≡ count_by (λ (a : Arc). eqb a.to v && eqb a.from u) arcs
+pub row-heads : (arcs : List Arc) (u v : ℕ)
+    → heads_among arcs (numbers_with (map from_of arcs) 0 u) v ≡ count_by (λ (a : Arc). eqb a.to v && eqb a.from u) arcs
 row-heads arcs u v = heads-row u v (arc_at arcs) 0 arcs (λ i lt. let e : 0 + i ≡ i = omega arith in ap (arc_at arcs) e)
 
-pub row-is : (arcs : List Arc) (u : ℕ) → All (λ v. (0 ≤ v) × (v - 0 < length (map from_of arcs)) × (get_or (map from_of arcs) (v - 0) 0 ≡ u)) (numbers_with (map from_of arcs) 0 u)
+pub row-is : (arcs : List Arc) (u : ℕ)
+    → All (λ v. (0 ≤ v) × (v - 0 < length (map from_of arcs)) × (get_or (map from_of arcs) (v - 0) 0 ≡ u))
+    (numbers_with (map from_of arcs) 0 u)
     → IsArcRow arcs (numbers_with (map from_of arcs) 0 u) u
 row-is arcs u each = record {
   within = λ i d lt. (let e = each i d lt in omega (arith, e.1, length-map arcs from_of));
@@ -427,16 +463,19 @@ row-is arcs u each = record {
 
 -- ---- the waits from the start
 
-module _ (n : ℕ) (arcs : List Arc) (waits : List ℕ) (i : ℕ) (lt : i < length arcs) (long : length waits ≡ n + 1) (within : All (IsArcWithin n) arcs)
+module _ (n : ℕ) (arcs : List Arc) (waits : List ℕ) (i : ℕ) (lt : i < length arcs)
+    (long : length waits ≡ n + 1) (within : All (IsArcWithin n) arcs)
     (are : (v : ℕ) → v ≤ n → get_or waits v 0 ≡ waits_of (take i arcs) [] v) where
-  more-waits : (v : ℕ) → waits_of (take (i + 1) arcs) [] v ≡ waits_of (take i arcs) [] v + cond {A = ℕ} (is_wait [] v (get_or arcs i no_arc)) 1 0
+  more-waits : (v : ℕ)
+      → waits_of (take (i + 1) arcs) [] v ≡ waits_of (take i arcs) [] v + cond {A = ℕ} (is_wait [] v (get_or arcs i no_arc)) 1 0
   more-waits v = sum_by_more (λ a. cond {A = ℕ} (is_wait [] v a) 1 0) arcs i no_arc lt
 
   pub to-small : (get_or arcs i no_arc).to ≤ n
   to-small = (within i no_arc lt).to
 
   pub old-is : (old : ℕ) → old ≡ get_or waits (get_or arcs i no_arc).to old → old ≡ waits_of (take i arcs) [] (get_or arcs i no_arc).to
-  old-is old read = get_or_read waits (get_or arcs i no_arc).to old (omega (arith, to-small, long)) read 0 ∙ are (get_or arcs i no_arc).to to-small
+  old-is old read =
+      get_or_read waits (get_or arcs i no_arc).to old (omega (arith, to-small, long)) read 0 ∙ are (get_or arcs i no_arc).to to-small
 
   pub waits-small : (v : ℕ) → waits_of (take i arcs) [] v ≤ i
   waits-small v = omega (arith, count_by-le-length (is_wait [] v) (take i arcs), length-take-le i arcs (omega arith))
@@ -447,10 +486,13 @@ module _ (n : ℕ) (arcs : List Arc) (waits : List ℕ) (i : ℕ) (lt : i < leng
       let arc = get_or arcs i no_arc in
       elim (cases_eq v arc.to) [
         | inl e ↦ (let one : cond {A = ℕ} (is_wait [] v arc) 1 0 ≡ 1 = rw (wait-first v arc some, eq-eqb arc.to v (sym e)) refl in
-            let now : get_or (set waits arc.to (old + 1)) v 0 ≡ old + 1 = ap (λ (x : ℕ). get_or (set waits arc.to (old + 1)) x 0) e ∙ get_or-set_same waits arc.to (old + 1) 0 (omega (arith, to-small, long)) in
-            let was : old ≡ get_or waits v 0 = get_or_read waits arc.to old (omega (arith, to-small, long)) read 0 ∙ ap (λ (x : ℕ). get_or waits x 0) (sym e) in
+            let now : get_or (set waits arc.to (old + 1)) v 0 ≡ old + 1 = ap (λ (x : ℕ). get_or (set waits arc.to (old + 1)) x 0) e
+            ∙ get_or-set_same waits arc.to (old + 1) 0 (omega (arith, to-small, long)) in
+            let was : old ≡ get_or waits v 0 =
+            get_or_read waits arc.to old (omega (arith, to-small, long)) read 0 ∙ ap (λ (x : ℕ). get_or waits x 0) (sym e) in
             omega (arith, one, now, was, are v le, more-waits v))
-        | inr ne ↦ (let none : cond {A = ℕ} (is_wait [] v arc) 1 0 ≡ 0 = rw (wait-first v arc some, ne_eqb arc.to v (λ e. ne (sym e))) refl in
+        | inr ne ↦
+            (let none : cond {A = ℕ} (is_wait [] v arc) 1 0 ≡ 0 = rw (wait-first v arc some, ne_eqb arc.to v (λ e. ne (sym e))) refl in
             omega (arith, none, get_or-set_other waits arc.to v (old + 1) 0 ne, are v le, more-waits v))
       ]
 
@@ -462,4 +504,5 @@ module _ (n : ℕ) (arcs : List Arc) (waits : List ℕ) (i : ℕ) (lt : i < leng
 -- ---- the row of the task that is taken
 
 pub same-at : (xs ys : List ℕ) (at : ℕ) → take (at + 1) xs ≡ take (at + 1) ys → get_or xs at 0 ≡ get_or ys at 0
-same-at xs ys at e = sym (get_or-take (at + 1) xs at 0 (omega arith)) ∙ ap (λ (zs : List ℕ). get_or zs at 0) e ∙ get_or-take (at + 1) ys at 0 (omega arith)
+same-at xs ys at e =
+    sym (get_or-take (at + 1) xs at 0 (omega arith)) ∙ ap (λ (zs : List ℕ). get_or zs at 0) e ∙ get_or-take (at + 1) ys at 0 (omega arith)

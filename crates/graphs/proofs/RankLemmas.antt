@@ -1,5 +1,6 @@
 -- In the completed graph an arc leads into each task and out of it; and tasks that can be ordered have ranks.
-use Rattle.std.proofs.Common.{◌≡◌, ℕ, zero, suc, ◌+◌, ◌<◌, ◌≤◌, Bool, true, cond, ◌&&◌, eqb, eq-eqb, List, [], ◌∷◌, ◌++◌, length, take, drop, get_or, map, filter, refl, sym, ap, subst, ◌∙◌, arith, inl, inr, ◌⊎◌}
+use Rattle.std.proofs.Common.{◌≡◌, ℕ, zero, suc, ◌+◌, ◌<◌, ◌≤◌, Bool, true, cond, ◌&&◌, eqb, eq-eqb, List, [], ◌∷◌, ◌++◌}
+use Rattle.std.proofs.Common.{length, take, drop, get_or, map, filter, refl, sym, ap, subst, ◌∙◌, arith, inl, inr, ◌⊎◌}
 use Rattle.std.specs.List.{count_by, range_with_len, All, position_or_len}
 use Rattle.std.proofs.lemmas.List.{length-append, take-append-drop, drop_more, length-take-le, get_or-take}
 use Rattle.std.proofs.Math.Seq.{get_or-append_seam}
@@ -9,7 +10,8 @@ use Rattle.std.proofs.lemmas.List.Folds.{list_any-append}
 use Rattle.std.proofs.lemmas.Bool.{cases_lt, cases_Bool, eqb-true, or_right}
 use Rattle.mp_system.specs.Memory.{stands_in}
 use Rattle.graphs.specs.declared.arc.Arc.{Arc}
-use Rattle.graphs.specs.Graph.{TaskGraph, IsAmong, IsGraph, Rises, AreSupplied, CanBeOrdered, is_into, is_out_of, arc_between, without_into, without_out, added_arcs, completed_arcs, completed}
+use Rattle.graphs.specs.Graph.{TaskGraph, IsAmong, IsGraph, Rises, AreSupplied, CanBeOrdered, is_into, is_out_of}
+use Rattle.graphs.specs.Graph.{arc_between, without_into, without_out, added_arcs, completed_arcs, completed}
 use Rattle.graphs.proofs.Standing.{place, stands-left, count-task}
 
 -- ---- an arc for each task
@@ -35,11 +37,21 @@ kept p n v among e =
 
 first-count : (v : ℕ) (us : List ℕ) → count_by (is_into v) (map (λ u. arc_between 0 u) us) ≡ count_by (λ u. eqb u v) us
 first-count v [] = refl
-first-count v (u ∷ us) = omega (arith, sum_by-cons (λ (a : Arc). cond {A = ℕ} (is_into v a) 1 0) (arc_between 0 u) (map (λ w. arc_between 0 w) us), sum_by-cons (λ w. cond {A = ℕ} (eqb w v) 1 0) u us, first-count v us)
+first-count v (u ∷ us) = omega (
+  arith,
+  sum_by-cons (λ (a : Arc). cond {A = ℕ} (is_into v a) 1 0) (arc_between 0 u) (map (λ w. arc_between 0 w) us),
+  sum_by-cons (λ w. cond {A = ℕ} (eqb w v) 1 0) u us,
+  first-count v us,
+)
 
 last-count : (v : ℕ) (us : List ℕ) → count_by (is_out_of v) (map (λ u. arc_between u 0) us) ≡ count_by (λ u. eqb u v) us
 last-count v [] = refl
-last-count v (u ∷ us) = omega (arith, sum_by-cons (λ (a : Arc). cond {A = ℕ} (is_out_of v a) 1 0) (arc_between u 0) (map (λ w. arc_between w 0) us), sum_by-cons (λ w. cond {A = ℕ} (eqb w v) 1 0) u us, last-count v us)
+last-count v (u ∷ us) = omega (
+  arith,
+  sum_by-cons (λ (a : Arc). cond {A = ℕ} (is_out_of v a) 1 0) (arc_between u 0) (map (λ w. arc_between w 0) us),
+  sum_by-cons (λ w. cond {A = ℕ} (eqb w v) 1 0) u us,
+  last-count v us,
+)
 
 module _ (n : ℕ) (arcs : List Arc) (v : ℕ) (among : IsAmong n v) where
   first_arcs : List Arc
@@ -100,7 +112,10 @@ record AreJoined (arcs : List Arc) (n : ℕ) : Type 0 where
   stands : (v : ℕ) → IsAmong n v → stands_in list v ≡ true
 
 pub nothing-supplied : (arcs : List Arc) → AreSupplied arcs []
-nothing-supplied arcs = record { each = λ before rest v split. absurd (let e : 0 ≡ length (before ++ v ∷ rest) = ap length split in omega (arith, e, length-append before (v ∷ rest))) }
+nothing-supplied arcs = record {
+  each = λ before rest v split.
+      absurd (let e : 0 ≡ length (before ++ v ∷ rest) = ap length split in omega (arith, e, length-append before (v ∷ rest)));
+}
 
 joined : (arcs : List Arc) (n : ℕ) → ((v : ℕ) → IsAmong n v → CanBeOrdered arcs v) → AreJoined arcs n
 joined arcs zero h = record { list = []; supplied = nothing-supplied arcs; stands = λ v among. absurd (omega (arith, among.0, among.1)) }
@@ -130,8 +145,11 @@ early xs v i lt e = elim (cases_lt i (position_or_len (λ u. eqb u v) xs)) [
 
 found : (xs : List ℕ) (v : ℕ) → stands_in xs v ≡ true → (i : ℕ) × (i < length xs) × (get_or xs i 0 ≡ v)
 found xs v h =
-    let p = place xs v h in
-    (length p.before, omega (arith, ap length p.is, length-append p.before (v ∷ p.rest)), ap (λ (ys : List ℕ). get_or ys (length p.before) 0) p.is ∙ get_or-append_seam p.before v p.rest 0)
+    let p = place xs v h in (
+      length p.before,
+      omega (arith, ap length p.is, length-append p.before (v ∷ p.rest)),
+      ap (λ (ys : List ℕ). get_or ys (length p.before) 0) p.is ∙ get_or-append_seam p.before v p.rest 0,
+    )
 
 earlier : (arcs : List Arc) (list : List ℕ) (i : ℕ) (d : Arc) → AreSupplied arcs list → i < length arcs → 1 ≤ (get_or arcs i d).from
     → stands_in list (get_or arcs i d).to ≡ true → first_place list (get_or arcs i d).from < first_place list (get_or arcs i d).to
@@ -144,7 +162,8 @@ earlier arcs list i d sup lt some stands =
     let short : position_or_len (λ w. eqb w v) list < length list = omega (arith, early list v f.0 f.1 f.2, f.1) in
     let at : get_or list p 0 ≡ v = eqb-true (get_or list p 0) v (passes_at_first (λ w. eqb w v) list 0 short) in
     let split : list ≡ take p list ++ v ∷ drop (p + 1) list =
-    sym (take-append-drop p list) ∙ ap (λ (xs : List ℕ). take p list ++ xs) (drop_more list p 0 short ∙ ap (λ (w : ℕ). w ∷ drop (p + 1) list) at) in
+    sym (take-append-drop p list)
+    ∙ ap (λ (xs : List ℕ). take p list ++ xs) (drop_more list p 0 short ∙ ap (λ (w : ℕ). w ∷ drop (p + 1) list) at) in
     let before = sup.each (take p list) (drop (p + 1) list) v split i d lt refl some in
     let g = found (take p list) u before in
     let len = length-take-le p list (omega (arith, short)) in
@@ -163,7 +182,9 @@ graph-ranked graph is =
     let j = joined graph.arcs (length graph.tasks) is.ordered in (
       first_place j.list,
       All-append (Rises (first_place j.list)) graph.arcs (added_arcs n graph.arcs)
-          (λ i d lt some low. earlier graph.arcs j.list i d j.supplied lt some (j.stands (get_or graph.arcs i d).to (low, (is.arcs i d lt).to)))
-          (All-append (Rises (first_place j.list)) (map (λ u. arc_between 0 u) (without_into n graph.arcs)) (map (λ u. arc_between u 0) (without_out n graph.arcs))
+          (λ i d lt some low.
+          earlier graph.arcs j.list i d j.supplied lt some (j.stands (get_or graph.arcs i d).to (low, (is.arcs i d lt).to)))
+          (All-append (Rises (first_place j.list)) (map (λ u. arc_between 0 u) (without_into n graph.arcs))
+          (map (λ u. arc_between u 0) (without_out n graph.arcs))
           (first_rises (first_place j.list) (without_into n graph.arcs)) (last_rises (first_place j.list) (without_out n graph.arcs))),
     )

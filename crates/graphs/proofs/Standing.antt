@@ -1,5 +1,6 @@
 -- Numbers that stand in a list, and where.
-use Rattle.std.proofs.Common.{◌≡◌, ℕ, suc, ◌-◌, ◌<◌, ◌≤◌, Bool, true, false, cond, eqb, List, [], ◌∷◌, ◌++◌, length, take, drop, get_or, refl, sym, ap, subst, ◌∙◌, arith, inl, inr, ◌⊎◌, eq-eqb}
+use Rattle.std.proofs.Common.{◌≡◌, ℕ, suc, ◌-◌, ◌<◌, ◌≤◌, Bool, true, false, cond, eqb, List, [], ◌∷◌, ◌++◌, length}
+use Rattle.std.proofs.Common.{take, drop, get_or, refl, sym, ap, subst, ◌∙◌, arith, inl, inr, ◌⊎◌, eq-eqb}
 use Rattle.std.specs.List.{count_by, range_with_len, All}
 use Rattle.std.proofs.lemmas.List.{take-append-drop, length-append}
 use Rattle.std.proofs.lemmas.List.FromFn.{length-range_with_len, get_or-range_with_len}
@@ -44,7 +45,8 @@ pub push-split : (xs : List ℕ) (w : ℕ) (before : List ℕ) (v : ℕ) (rest :
     → ((xs ≡ before) × (w ≡ v)) ⊎ ((more : List ℕ) × (xs ≡ before ++ v ∷ more))
 push-split [] w [] v rest e = inl (refl, cc)
 push-split (x ∷ xs) w [] v rest e = inr (xs, (let same : x ≡ v = cc in ap (λ (y : ℕ). y ∷ xs) same))
-push-split [] w (b ∷ bs) v rest e = absurd (let n : length (w ∷ []) ≡ length (b ∷ (bs ++ v ∷ rest)) = ap length e in omega (arith, n, length-append bs (v ∷ rest)))
+push-split [] w (b ∷ bs) v rest e =
+    absurd (let n : length (w ∷ []) ≡ length (b ∷ (bs ++ v ∷ rest)) = ap length e in omega (arith, n, length-append bs (v ∷ rest)))
 push-split (x ∷ xs) w (b ∷ bs) v rest e =
     let head : x ≡ b = cc in
     let tail : xs ++ w ∷ [] ≡ bs ++ v ∷ rest = cc in

@@ -1,5 +1,6 @@
 -- The completed system is within the limits of systems.
-use Rattle.std.proofs.Common.{◌≡◌, ℕ, zero, suc, ◌<◌, ◌≤◌, true, cond, eqb, List, [], ◌∷◌, length, get_or, map, refl, sym, ap, ◌∙◌, arith, Some}
+use Rattle.std.proofs.Common.{◌≡◌, ℕ, zero, suc, ◌<◌, ◌≤◌, true, cond, eqb, List, [], ◌∷◌}
+use Rattle.std.proofs.Common.{length, get_or, map, refl, sym, ap, ◌∙◌, arith, Some}
 use Rattle.std.specs.List.{sum_by, All, range_with_len}
 use Rattle.std.specs.Option.{ForSome}
 use Rattle.std.proofs.lemmas.List.{length-map}
@@ -9,7 +10,8 @@ use Rattle.std.proofs.lemmas.List.Sums.{sum_by-cons}
 use Rattle.mp_system.specs.declared.system.Item.{Item}
 use Rattle.mp_system.specs.System.{IsSystem, IsItemWithin, is_named, is_input, is_output, size_if, size_where, item_size}
 use Rattle.graphs.specs.declared.arc.Arc.{Arc}
-use Rattle.graphs.specs.Graph.{TaskGraph, IsAmong, IsGraph, IsArcWithin, end_of, item_of_arc, size_into, size_out_of, arc_size, arc_between, without_into, without_out, added_arcs, completed_arcs, completed_system}
+use Rattle.graphs.specs.Graph.{TaskGraph, IsAmong, IsGraph, IsArcWithin, end_of, item_of_arc, size_into, size_out_of, arc_size}
+use Rattle.graphs.specs.Graph.{arc_between, without_into, without_out, added_arcs, completed_arcs, completed_system}
 use Rattle.graphs.proofs.CompletionLemmas.{where-same}
 
 -- ---- ends
@@ -44,7 +46,8 @@ completed-within n arcs own =
     (λ i d lt. let among = All-filter _ (IsAmong n) (range_with_len 1 n) (numbers-among n) i d lt in
     record { from = among.1; to = omega arith; apart = λ e. e; size = omega arith }) in
     All-append (IsArcWithin n) arcs (added_arcs n arcs) own
-    (All-append (IsArcWithin n) (map (λ v. arc_between 0 v) (without_into n arcs)) (map (λ v. arc_between v 0) (without_out n arcs)) first last)
+    (All-append (IsArcWithin n) (map (λ v. arc_between 0 v) (without_into n arcs))
+    (map (λ v. arc_between v 0) (without_out n arcs)) first last)
 
 -- ---- sums
 
@@ -57,12 +60,24 @@ out-size v x some = ap (λ b. cond b x.size 0) (named-end x.from v some)
 inputs-arcs : (v : ℕ) (xs : List Arc) → 1 ≤ v → size_where (is_input v) (map item_of_arc xs) ≡ sum_by (size_into v) xs
 inputs-arcs v [] some = refl
 inputs-arcs v (x ∷ xs) some =
-    omega (arith, sum_by-cons (size_if (is_input v)) (item_of_arc x) (map item_of_arc xs), sum_by-cons (size_into v) x xs, into-size v x some, inputs-arcs v xs some)
+    omega (
+      arith,
+      sum_by-cons (size_if (is_input v)) (item_of_arc x) (map item_of_arc xs),
+      sum_by-cons (size_into v) x xs,
+      into-size v x some,
+      inputs-arcs v xs some,
+    )
 
 outputs-arcs : (v : ℕ) (xs : List Arc) → 1 ≤ v → size_where (is_output v) (map item_of_arc xs) ≡ sum_by (size_out_of v) xs
 outputs-arcs v [] some = refl
 outputs-arcs v (x ∷ xs) some =
-    omega (arith, sum_by-cons (size_if (is_output v)) (item_of_arc x) (map item_of_arc xs), sum_by-cons (size_out_of v) x xs, out-size v x some, outputs-arcs v xs some)
+    omega (
+      arith,
+      sum_by-cons (size_if (is_output v)) (item_of_arc x) (map item_of_arc xs),
+      sum_by-cons (size_out_of v) x xs,
+      out-size v x some,
+      outputs-arcs v xs some,
+    )
 
 always-sizes : (items : List Item) → size_where (λ x. true) items ≡ sum_by item_size items
 always-sizes [] = refl
@@ -80,7 +95,8 @@ completed-is_system graph is =
     let all = completed_arcs (length graph.tasks) graph.arcs in
     let within = completed-within (length graph.tasks) graph.arcs is.arcs in
     let sizes : sum_by item_size (map item_of_arc all) ≡ sum_by arc_size graph.arcs =
-    sym (always-sizes (map item_of_arc all)) ∙ where-same graph (λ x. true) ∙ always-sizes (map item_of_arc graph.arcs) ∙ arc-sizes graph.arcs in
+    sym (always-sizes (map item_of_arc all)) ∙ where-same graph (λ x. true)
+    ∙ always-sizes (map item_of_arc graph.arcs) ∙ arc-sizes graph.arcs in
     record {
       few_tasks = is.few_tasks;
       few_items = omega (arith, length-map all item_of_arc, is.few_arcs);

@@ -28,6 +28,7 @@ front_side : (side a b : List Seg) → a ++ b ≡ side → IsSide (profile side)
 front_side side a b e h = side_front (profile a) (profile b) (rw (← profile_behind a b, e) h)
 
 -- `rest` is left of a side, and s is the first of them
-pub next_front : (side done rest rest' : List Seg) (s : Seg) → done ++ rest ≡ side → rest ≡ s ∷ rest' → IsSide (profile side) → IsSide (profile (done ++ s ∷ []))
+pub next_front : (side done rest rest' : List Seg) (s : Seg) → done ++ rest ≡ side
+    → rest ≡ s ∷ rest' → IsSide (profile side) → IsSide (profile (done ++ s ∷ []))
 next_front side done rest rest' s told next h =
     front_side side (done ++ s ∷ []) rest' (append_assoc done (s ∷ []) rest' ∙ ap (λ (l : List Seg). done ++ l) (sym next) ∙ told) h

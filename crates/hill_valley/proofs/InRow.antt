@@ -41,14 +41,16 @@ gap k (suc i) [] h p other = absurd (let w = p.within in omega arith)
 gap k zero (s ∷ ss) h p other = let a = p.above (omega arith) in let o = other (omega arith) in omega arith
 gap k (suc i) (s ∷ ss) h p other = (before_place k i s ss h p, gap k i ss h.1 (place_rest k i s ss p) (λ lt. other (omega arith)))
 
-pub there : (k i : ℕ) (ss : List Seg) (own : Seg) → IsRising (profile ss) → IsPlace k i ss → i < length ss → own ≡ get_or ss i own → own.up ≡ k → IsThere k i ss own
+pub there : (k i : ℕ) (ss : List Seg) (own : Seg) → IsRising (profile ss)
+    → IsPlace k i ss → i < length ss → own ≡ get_or ss i own → own.up ≡ k → IsThere k i ss own
 there k i [] own h p lt e same = absurd (omega arith)
 there k zero (s ∷ ss) own h p lt e same = (sym e, ap (λ (x : Seg). x.up) (sym e) ∙ same)
 there k (suc i) (s ∷ ss) own h p lt e same = (before_place k i s ss h p, there k i ss own h.1 (place_rest k i s ss p) (omega arith) e same)
 
 -- ---- the search for it
 
-pub below_more : (k m : ℕ) (ss : List Seg) (s : Seg) → m < length ss → s ≡ get_or ss m s → s.up < k → (i : ℕ) → i + 1 ≡ m + 1 → up_at i ss < k
+pub below_more : (k m : ℕ) (ss : List Seg) (s : Seg) → m < length ss
+    → s ≡ get_or ss m s → s.up < k → (i : ℕ) → i + 1 ≡ m + 1 → up_at i ss < k
 below_more k m ss s lt e h i same = let u = there_up ss m s lt e in let n : i ≡ m = omega arith in rw n (omega arith)
 
 pub above_at : (k m : ℕ) (ss : List Seg) (s : Seg) → m < length ss → s ≡ get_or ss m s → k ≤ s.up → k ≤ up_at m ss
@@ -65,27 +67,33 @@ same before r t rs h = grind (arith, nat_tests)
 pub more : (before : Bool) (r t : Run) (rs : List Run) → t.up < r.up → insert_run before r (t ∷ rs) ≡ t ∷ insert_run before r rs
 more before r t rs h = grind (arith, nat_tests)
 
-pub put_gap : (lists : List (List ℕ)) (before : Bool) (s : Seg) (i : ℕ) (ss : List Seg) → IsGap s.up i ss → runs_of lists (insert ss i s) ≡ insert_run before (run_of lists s) (runs_of lists ss)
+pub put_gap : (lists : List (List ℕ)) (before : Bool) (s : Seg) (i : ℕ) (ss : List Seg)
+    → IsGap s.up i ss → runs_of lists (insert ss i s) ≡ insert_run before (run_of lists s) (runs_of lists ss)
 put_gap lists before s zero [] h = refl
 put_gap lists before s (suc i) [] h = absurd h
 put_gap lists before s zero (t ∷ ss) h = sym (less before (run_of lists s) (run_of lists t) (runs_of lists ss) h)
 put_gap lists before s (suc i) (t ∷ ss) h =
-    ap (λ (l : List Run). run_of lists t ∷ l) (put_gap lists before s i ss h.1) ∙ sym (more before (run_of lists s) (run_of lists t) (runs_of lists ss) h.0)
+    ap (λ (l : List Run). run_of lists t ∷ l) (put_gap lists before s i ss h.1)
+    ∙ sym (more before (run_of lists s) (run_of lists t) (runs_of lists ss) h.0)
 
-pub gap_runs : (lists : List (List ℕ)) (before : Bool) (s : Seg) (i : ℕ) (items side items' : List Seg) → items ≡ side → IsGap s.up i items → items' ≡ insert items i s
+pub gap_runs : (lists : List (List ℕ)) (before : Bool) (s : Seg) (i : ℕ) (items side items' : List Seg)
+    → items ≡ side → IsGap s.up i items → items' ≡ insert items i s
     → runs_of lists items' ≡ insert_run before (run_of lists s) (runs_of lists side)
 gap_runs lists before s i items side items' view h e = rw (e, ← view) (put_gap lists before s i items h)
 
-pub ropes_gap : (lists : List (List ℕ)) (s : Seg) (i : ℕ) (ss : List Seg) → HaveRopes lists ss → IsRope lists s.tasks → HaveRopes lists (insert ss i s)
+pub ropes_gap : (lists : List (List ℕ)) (s : Seg) (i : ℕ) (ss : List Seg)
+    → HaveRopes lists ss → IsRope lists s.tasks → HaveRopes lists (insert ss i s)
 ropes_gap lists s zero ss h r = (r, h)
 ropes_gap lists s (suc i) [] h r = (r, tt)
 ropes_gap lists s (suc i) (t ∷ ss) h r = (h.0, ropes_gap lists s i ss h.1 r)
 
-module _ (old new : List (List ℕ)) (kept : Extends old new) (before : Bool) (s own whole : Seg) (is : run_of new whole ≡ join_runs before (run_of old s) (run_of old own)) where
+module _ (old new : List (List ℕ)) (kept : Extends old new) (before : Bool) (s own whole : Seg)
+    (is : run_of new whole ≡ join_runs before (run_of old s) (run_of old own)) where
   kept_run : (t : Seg) → IsRope old t.tasks → run_of new t ≡ run_of old t
   kept_run t h = ap (λ (l : List ℕ). record { up = t.up; net = t.net; tasks = l }) (list_kept old new t.tasks h kept)
 
-  pub put_there : (i : ℕ) (ss : List Seg) → IsThere s.up i ss own → HaveRopes old ss → runs_of new (set ss i whole) ≡ insert_run before (run_of old s) (runs_of old ss)
+  pub put_there : (i : ℕ) (ss : List Seg) → IsThere s.up i ss own → HaveRopes old ss
+      → runs_of new (set ss i whole) ≡ insert_run before (run_of old s) (runs_of old ss)
   put_there i [] h ropes = absurd h
   put_there zero (t ∷ ss) h ropes =
       rw (runs_kept old new ss ropes.1 kept)
@@ -98,14 +106,16 @@ module _ (old new : List (List ℕ)) (kept : Extends old new) (before : Bool) (s
       → runs_of new (set items i whole) ≡ insert_run before (run_of old s) (runs_of old side)
   there_runs i items side view h ropes = rw (← view) (put_there i items h (rw view ropes))
 
-pub ropes_there : (lists : List (List ℕ)) (whole : Seg) (i : ℕ) (ss : List Seg) → HaveRopes lists ss → IsRope lists whole.tasks → HaveRopes lists (set ss i whole)
+pub ropes_there : (lists : List (List ℕ)) (whole : Seg) (i : ℕ) (ss : List Seg)
+    → HaveRopes lists ss → IsRope lists whole.tasks → HaveRopes lists (set ss i whole)
 ropes_there lists whole i [] h r = tt
 ropes_there lists whole zero (t ∷ ss) h r = (r, h.1)
 ropes_there lists whole (suc i) (t ∷ ss) h r = (h.0, ropes_there lists whole i ss h.1 r)
 
 -- ---- what is there
 
-pub there_rope : (lists : List (List ℕ)) (k i : ℕ) (ss : List Seg) (own : Seg) → IsThere k i ss own → HaveRopes lists ss → IsRope lists own.tasks
+pub there_rope : (lists : List (List ℕ)) (k i : ℕ) (ss : List Seg) (own : Seg)
+    → IsThere k i ss own → HaveRopes lists ss → IsRope lists own.tasks
 there_rope lists k i [] own h r = absurd h
 there_rope lists k zero (s ∷ ss) own h r = rw h.0 at r.0
 there_rope lists k (suc i) (s ∷ ss) own h r = there_rope lists k i ss own h.1 r.1

@@ -1,5 +1,6 @@
 -- An entry that is put into the map, as the list of segments sees it.
-use Rattle.std.proofs.Common.{◌≡◌, ℕ, suc, ◌+◌, ◌<◌, ◌≤◌, ◌^◌, List, [], ◌∷◌, ◌++◌, refl, ap, sym, ◌∙◌, arith, subst, Option, Some, IfSome, Bool, length}
+use Rattle.std.proofs.Common.{◌≡◌, ℕ, suc, ◌+◌, ◌<◌, ◌≤◌, ◌^◌, List, [], ◌∷◌, ◌++◌, refl, ap}
+use Rattle.std.proofs.Common.{sym, ◌∙◌, arith, subst, Option, Some, IfSome, Bool, length}
 use Rattle.std.specs.List.{slice_get}
 use Rattle.std.specs.Ordering.{nat_cmp}
 use Rattle.std.specs.declared.cmp.Ordering.{Ordering}
@@ -41,15 +42,18 @@ length_segs [] = refl
 length_segs (e ∷ es) = ap suc (length_segs es)
 
 -- the numbers of the entries, where the first is at `up`
-pub seen_next : (es rest : List Entry) (up : ℕ) (d : Descent) → es ≡ (up, d) ∷ rest → profile (segs_of es) ≡ record { up = up; net = d.net } ∷ profile (segs_of rest)
+pub seen_next : (es rest : List Entry) (up : ℕ) (d : Descent) → es ≡ (up, d) ∷ rest
+    → profile (segs_of es) ≡ record { up = up; net = d.net } ∷ profile (segs_of rest)
 seen_next es rest up d e = ap (λ (l : List Entry). profile (segs_of l)) e
 
 -- ---- the runs
 
 module _ (old new : List (List ℕ)) (kept : Extends old new) (before : Bool) (k : ℕ) (w : ℕ × List ℕ) (v : Descent) where
-  put_step : (e : Entry) (es : List Entry) (o : Ordering) → nat_cmp k e.0 ≡ o → IsStrictlySortedBy nat_cmp (keys_of (e ∷ es)) → HaveRopes old (segs_of (e ∷ es))
+  put_step : (e : Entry) (es : List Entry) (o : Ordering) → nat_cmp k e.0 ≡ o
+      → IsStrictlySortedBy nat_cmp (keys_of (e ∷ es)) → HaveRopes old (segs_of (e ∷ es))
       → list_seen new v ≡ list_joined before w (own_seen old k (e ∷ es))
-      → (list_seen new v ≡ list_joined before w (own_seen old k es) → runs_of new (segs_of (insert_entry nat_cmp es k v)) ≡ insert_run before (run k w) (runs_of old (segs_of es)))
+      → (list_seen new v ≡ list_joined before w (own_seen old k es)
+      → runs_of new (segs_of (insert_entry nat_cmp es k v)) ≡ insert_run before (run k w) (runs_of old (segs_of es)))
       → runs_of new (segs_of (insert_entry nat_cmp (e ∷ es) k v)) ≡ insert_run before (run k w) (runs_of old (segs_of (e ∷ es)))
   put_step e es Less eq sorted ropes h ih =
       let none = lookup-none (is_at (nat_cmp k)) (e ∷ es) (none_below_head nat_cmp_total k e es sorted eq) in
@@ -65,10 +69,12 @@ module _ (old new : List (List ℕ)) (kept : Extends old new) (before : Bool) (k
       let later = ih (rw eq at h) in
       rw (eq, first, later) refl
 
-  pub runs_put : (es : List Entry) → IsStrictlySortedBy nat_cmp (keys_of es) → HaveRopes old (segs_of es) → list_seen new v ≡ list_joined before w (own_seen old k es)
+  pub runs_put : (es : List Entry) → IsStrictlySortedBy nat_cmp (keys_of es)
+      → HaveRopes old (segs_of es) → list_seen new v ≡ list_joined before w (own_seen old k es)
       → runs_of new (segs_of (insert_entry nat_cmp es k v)) ≡ insert_run before (run k w) (runs_of old (segs_of es))
   runs_put [] sorted ropes h = ap (λ (x : ℕ × List ℕ). run k x ∷ []) h
-  runs_put (e ∷ es) sorted ropes h = put_step e es (nat_cmp k e.0) refl sorted ropes h (λ h'. runs_put es (sorted_tail nat_cmp e.0 (keys_of es) sorted) ropes.1 h')
+  runs_put (e ∷ es) sorted ropes h =
+      put_step e es (nat_cmp k e.0) refl sorted ropes h (λ h'. runs_put es (sorted_tail nat_cmp e.0 (keys_of es) sorted) ropes.1 h')
 
 -- ---- behind all others
 
@@ -76,19 +82,22 @@ below_last : (t : Seg) (ss : List Seg) (s : Seg) → IsRising (profile (t ∷ (s
 below_last t [] s h = h.0
 below_last t (u ∷ ss) s h = let e = below_last u ss s h.1 in let f = h.0 in omega arith
 
-past_entry : (e : Entry) (es : List Entry) (k : ℕ) (v : Descent) → e.0 < k → insert_entry nat_cmp (e ∷ es) k v ≡ e ∷ insert_entry nat_cmp es k v
+past_entry : (e : Entry) (es : List Entry) (k : ℕ) (v : Descent) → e.0 < k
+    → insert_entry nat_cmp (e ∷ es) k v ≡ e ∷ insert_entry nat_cmp es k v
 past_entry e es k v h = grind (arith, nat_tests)
 
 segs_append : (es fs : List Entry) → segs_of (es ++ fs) ≡ segs_of es ++ segs_of fs
 segs_append [] fs = refl
 segs_append (e ∷ es) fs = ap (λ (l : List Seg). seg_of e ∷ l) (segs_append es fs)
 
-put_last : (es : List Entry) (k : ℕ) (v : Descent) → IsRising (profile (segs_of es ++ seg_of (k, v) ∷ [])) → insert_entry nat_cmp es k v ≡ es ++ (k, v) ∷ []
+put_last : (es : List Entry) (k : ℕ) (v : Descent)
+    → IsRising (profile (segs_of es ++ seg_of (k, v) ∷ [])) → insert_entry nat_cmp es k v ≡ es ++ (k, v) ∷ []
 put_last [] k v h = refl
 put_last (e ∷ es) k v h =
     past_entry e es k v (below_last (seg_of e) (segs_of es) (seg_of (k, v)) h) ∙ ap (λ (l : List Entry). e ∷ l) (put_last es k v h.1)
 
-pub pushed : (es es' : List Entry) (side : List Seg) (k : ℕ) (v : Descent) → segs_of es ≡ side → es' ≡ insert_entry nat_cmp es k v → IsRising (profile (side ++ seg_of (k, v) ∷ []))
+pub pushed : (es es' : List Entry) (side : List Seg) (k : ℕ) (v : Descent) → segs_of es ≡ side
+    → es' ≡ insert_entry nat_cmp es k v → IsRising (profile (side ++ seg_of (k, v) ∷ []))
     → segs_of es' ≡ side ++ seg_of (k, v) ∷ []
 pushed es es' side k v view e h = rw (e, ← view) (ap segs_of (put_last es k v (rw view h)) ∙ segs_append es ((k, v) ∷ []))
 
@@ -99,17 +108,20 @@ first_at (f ∷ es) e h = let g : f ≡ e = cc in ap (λ (x : Entry). Some x.0) 
 
 -- ---- the ropes
 
-ropes_step : (lists : List (List ℕ)) (e : Entry) (es : List Entry) (k : ℕ) (v : Descent) → HaveRopes lists (segs_of (e ∷ es)) → IsRope lists v.tasks → HaveRopes lists (segs_of (insert_entry nat_cmp es k v))
+ropes_step : (lists : List (List ℕ)) (e : Entry) (es : List Entry) (k : ℕ) (v : Descent)
+    → HaveRopes lists (segs_of (e ∷ es)) → IsRope lists v.tasks → HaveRopes lists (segs_of (insert_entry nat_cmp es k v))
     → HaveRopes lists (segs_of (insert_entry nat_cmp (e ∷ es) k v))
 ropes_step lists e es k v h r ih = grind (arith, nat_tests)
 
-pub ropes_put : (lists : List (List ℕ)) (es : List Entry) (k : ℕ) (v : Descent) → HaveRopes lists (segs_of es) → IsRope lists v.tasks → HaveRopes lists (segs_of (insert_entry nat_cmp es k v))
+pub ropes_put : (lists : List (List ℕ)) (es : List Entry) (k : ℕ) (v : Descent) → HaveRopes lists (segs_of es)
+    → IsRope lists v.tasks → HaveRopes lists (segs_of (insert_entry nat_cmp es k v))
 ropes_put lists [] k v h r = (r, tt)
 ropes_put lists (e ∷ es) k v h r = ropes_step lists e es k v h r (ropes_put lists es k v h.1 r)
 
 -- ---- the numbers
 
-ups_step : (s e : Segment) (es : List Segment) → s.up ≤ most_total → AllUpsWithin (e ∷ es) → AllUpsWithin (insert_segment s es) → AllUpsWithin (insert_segment s (e ∷ es))
+ups_step : (s e : Segment) (es : List Segment) → s.up ≤ most_total → AllUpsWithin (e ∷ es)
+    → AllUpsWithin (insert_segment s es) → AllUpsWithin (insert_segment s (e ∷ es))
 ups_step s e es hs he ih = grind (arith, nat_tests)
 
 ups_inserted : (s : Segment) (es : List Segment) → s.up ≤ most_total → AllUpsWithin es → AllUpsWithin (insert_segment s es)
@@ -118,11 +130,14 @@ ups_inserted s (e ∷ es) hs he = ups_step s e es hs he (ups_inserted s es hs he
 
 -- ---- what a look-up finds
 
-own_step : (lists : List (List ℕ)) (k net : ℕ) (e : Entry) (es : List Entry) → HaveRopes lists (segs_of (e ∷ es)) → net_sum (profile (segs_of (e ∷ es))) + net ≤ most_total
-    → IfSome (lookup (is_at (nat_cmp k)) es) (λ v. IsRope lists v.tasks × (v.net + net < 2 ^ 64)) → IfSome (lookup (is_at (nat_cmp k)) (e ∷ es)) (λ v. IsRope lists v.tasks × (v.net + net < 2 ^ 64))
+own_step : (lists : List (List ℕ)) (k net : ℕ) (e : Entry) (es : List Entry)
+    → HaveRopes lists (segs_of (e ∷ es)) → net_sum (profile (segs_of (e ∷ es))) + net ≤ most_total
+    → IfSome (lookup (is_at (nat_cmp k)) es) (λ v. IsRope lists v.tasks × (v.net + net < 2 ^ 64))
+    → IfSome (lookup (is_at (nat_cmp k)) (e ∷ es)) (λ v. IsRope lists v.tasks × (v.net + net < 2 ^ 64))
 own_step lists k net e es ropes room ih = grind (arith, nat_tests)
 
-pub own_fits : (lists : List (List ℕ)) (k net : ℕ) (es : List Entry) → HaveRopes lists (segs_of es) → net_sum (profile (segs_of es)) + net ≤ most_total
+pub own_fits : (lists : List (List ℕ)) (k net : ℕ) (es : List Entry)
+    → HaveRopes lists (segs_of es) → net_sum (profile (segs_of es)) + net ≤ most_total
     → IfSome (lookup (is_at (nat_cmp k)) es) (λ v. IsRope lists v.tasks × (v.net + net < 2 ^ 64))
 own_fits lists k net [] ropes room = tt
 own_fits lists k net (e ∷ es) ropes room = own_step lists k net e es ropes room (own_fits lists k net es ropes.1 (omega arith))
@@ -130,7 +145,8 @@ own_fits lists k net (e ∷ es) ropes room = own_step lists k net e es ropes roo
 -- ---- the whole of it
 
 -- es are the entries of the map of a side, es' those after v was put in at k, and this is what the calls of `insert` say of them
-pub record Put (old new : List (List ℕ)) (before : Bool) (k : ℕ) (w : ℕ × List ℕ) (v : Descent) (side : List Seg) (es es' : List Entry) : Type 0 where
+pub record Put (old new : List (List ℕ)) (before : Bool) (k : ℕ) (w : ℕ × List ℕ)
+    (v : Descent) (side : List Seg) (es es' : List Entry) : Type 0 where
   pub same : segs_of es ≡ side
   pub kept : Extends old new
   pub sorted : IsStrictlySortedBy nat_cmp (keys_of es)
@@ -138,20 +154,24 @@ pub record Put (old new : List (List ℕ)) (before : Bool) (k : ℕ) (w : ℕ ×
   pub value : list_seen new v ≡ list_joined before w (own_seen old k es)
   pub entries : es' ≡ insert_entry nat_cmp es k v
 
-module _ (old new : List (List ℕ)) (before : Bool) (k : ℕ) (w : ℕ × List ℕ) (v : Descent) (side : List Seg) (es es' : List Entry) (p : Put old new before k w v side es es') where
+module _ (old new : List (List ℕ)) (before : Bool) (k : ℕ) (w : ℕ × List ℕ) (v : Descent)
+    (side : List Seg) (es es' : List Entry) (p : Put old new before k w v side es es') where
   own_ropes : HaveRopes old (segs_of es)
   own_ropes = rw p.same p.ropes
 
   pub runs_after : runs_of new (segs_of es') ≡ insert_run before (run k w) (runs_of old side)
-  runs_after = rw p.entries (runs_put old new p.kept before k w v es p.sorted own_ropes p.value) ∙ ap (λ (l : List Seg). insert_run before (run k w) (runs_of old l)) p.same
+  runs_after = rw p.entries (runs_put old new p.kept before k w v es p.sorted own_ropes p.value)
+      ∙ ap (λ (l : List Seg). insert_run before (run k w) (runs_of old l)) p.same
 
   pub ropes_after : IsRope new v.tasks → HaveRopes new (segs_of es')
   ropes_after r = rw p.entries (ropes_put new es k v (ropes_kept old new (segs_of es) own_ropes p.kept) r)
 
 -- the numbers of a side after a segment s was put in among the segments of another
-pub profile_put : (old new : List (List ℕ)) (before : Bool) (s : Seg) (ss ss' : List Seg) → runs_of new ss' ≡ insert_run before (run_of old s) (runs_of old ss) → profile ss' ≡ insert_segment (numbers s) (profile ss)
+pub profile_put : (old new : List (List ℕ)) (before : Bool) (s : Seg) (ss ss' : List Seg)
+    → runs_of new ss' ≡ insert_run before (run_of old s) (runs_of old ss) → profile ss' ≡ insert_segment (numbers s) (profile ss)
 profile_put old new before s ss ss' e =
-    sym (profile_runs new ss') ∙ ap run_profile e ∙ profile_insert before (run_of old s) (runs_of old ss) ∙ ap (insert_segment (numbers s)) (profile_runs old ss)
+    sym (profile_runs new ss') ∙ ap run_profile e ∙ profile_insert before (run_of old s) (runs_of old ss)
+    ∙ ap (insert_segment (numbers s)) (profile_runs old ss)
 
 -- the numbers of a side after a segment s was put in
 module _ (s : Segment) (ss ss' : List Segment) (is : ss' ≡ insert_segment s ss) (side : IsSide ss) where
@@ -167,12 +187,14 @@ module _ (s : Segment) (ss ss' : List Segment) (is : ss' ≡ insert_segment s ss
   room_after : NetOfInsert → MergeOfOne → (level : ℕ) → net_sum ss + s.net ≤ level → net_sum (merge_segments ((s ∷ []) ∷ ss ∷ [])) ≤ level
   room_after net one level h = omega (arith, ap net_sum (merged one), net_after net)
 
-  pub lowest_after : NetOfInsert → MergeOfOne → LowestOfMerge → (limit level : ℕ) → net_sum ss + s.net ≤ level → AreStuckAt limit level ((s ∷ []) ∷ ss ∷ []) (lowest limit level ss')
+  pub lowest_after : NetOfInsert → MergeOfOne → LowestOfMerge → (limit level : ℕ)
+      → net_sum ss + s.net ≤ level → AreStuckAt limit level ((s ∷ []) ∷ ss ∷ []) (lowest limit level ss')
   lowest_after net one low limit level h =
       subst (λ (l : List Segment). AreStuckAt limit level ((s ∷ []) ∷ ss ∷ []) (lowest limit level l)) (sym (merged one))
       (low limit level ((s ∷ []) ∷ ss ∷ []) ((tt, tt), (side.2, tt)) (room_after net one level h))
 
-  pub top_after : NetOfInsert → MergeOfOne → TopOfMerge → (level : ℕ) → net_sum ss + s.net ≤ level → IsLeastTogether level ((s ∷ []) ∷ ss ∷ []) (top level ss')
+  pub top_after : NetOfInsert → MergeOfOne → TopOfMerge → (level : ℕ)
+      → net_sum ss + s.net ≤ level → IsLeastTogether level ((s ∷ []) ∷ ss ∷ []) (top level ss')
   top_after net one most level h =
       subst (λ (l : List Segment). IsLeastTogether level ((s ∷ []) ∷ ss ∷ []) (top level l)) (sym (merged one))
       (most level ((s ∷ []) ∷ ss ∷ []) ((tt, tt), (side.2, tt)) (room_after net one level h))

@@ -1,5 +1,6 @@
 -- The values of joins: what one more join adds, and what stands at a place.
-use Rattle.std.proofs.Common.{◌≡◌, ℕ, zero, suc, ◌+◌, ◌<◌, List, [], ◌∷◌, ◌++◌, reverse, get_or, length, refl, ap, sym, ◌∙◌, arith, subst, length-append}
+use Rattle.std.proofs.Common.{◌≡◌, ℕ, zero, suc, ◌+◌, ◌<◌, List, [], ◌∷◌, ◌++◌, reverse, get_or}
+use Rattle.std.proofs.Common.{length, refl, ap, sym, ◌∙◌, arith, subst, length-append}
 use Rattle.std.proofs.lemmas.Grind.{common_steps}
 use Rattle.hill_valley.specs.Ropes.{values_from, list_of_piece, list_of_join, lists_of, IsPiece, HasPartsBelow, AllHavePartsBelow, Extends}
 use Rattle.hill_valley.specs.declared.ropes.Piece.{Piece}
@@ -62,7 +63,8 @@ module _ {A : Type 0} (d : A) (make : (ℕ → A) → Join → A) where
         ap (λ k. get_or (values_from d make (done ++ y ∷ []) js) k d) at
         ∙ value_at (done ++ y ∷ []) js i x (subst (λ (k : ℕ). AllHavePartsBelow k js) (sym longer) h.1) (omega arith)
 
-pub piece_local : (n : ℕ) (p : Piece) (f g : ℕ → List ℕ) → IsPiece n p → ((i : ℕ) → i < n → f i ≡ g i) → list_of_piece f p ≡ list_of_piece g p
+pub piece_local : (n : ℕ) (p : Piece) (f g : ℕ → List ℕ) → IsPiece n p
+    → ((i : ℕ) → i < n → f i ≡ g i) → list_of_piece f p ≡ list_of_piece g p
 piece_local n Empty f g h e = refl
 piece_local n (Task task) f g h e = refl
 piece_local n (Joined i) f g h e = e i h
@@ -71,23 +73,32 @@ piece_local n (Turned i) f g h e = ap reverse (e i h)
 list_local : (n : ℕ) (x : Join) (f g : ℕ → List ℕ) → HasPartsBelow n x → ((i : ℕ) → i < n → f i ≡ g i) → list_of_join f x ≡ list_of_join g x
 list_local n x f g h e = rw (piece_local n x.first f g h.0 e, piece_local n x.second f g h.1 e) refl
 
-weight_local_piece : (n : ℕ) (p : Piece) (f g : ℕ → ℕ) → IsPiece n p → ((i : ℕ) → i < n → f i ≡ g i) → weight_of_piece f p ≡ weight_of_piece g p
+weight_local_piece : (n : ℕ) (p : Piece) (f g : ℕ → ℕ) → IsPiece n p
+    → ((i : ℕ) → i < n → f i ≡ g i) → weight_of_piece f p ≡ weight_of_piece g p
 weight_local_piece n Empty f g h e = refl
 weight_local_piece n (Task task) f g h e = refl
 weight_local_piece n (Joined i) f g h e = let p = e i h in omega arith
 weight_local_piece n (Turned i) f g h e = let p = e i h in omega arith
 
-weight_local : (n : ℕ) (x : Join) (f g : ℕ → ℕ) → HasPartsBelow n x → ((i : ℕ) → i < n → f i ≡ g i) → weight_of_join f x ≡ weight_of_join g x
+weight_local : (n : ℕ) (x : Join) (f g : ℕ → ℕ) → HasPartsBelow n x
+    → ((i : ℕ) → i < n → f i ≡ g i) → weight_of_join f x ≡ weight_of_join g x
 weight_local n x f g h e = let p = weight_local_piece n x.first f g h.0 e in let q = weight_local_piece n x.second f g h.1 e in omega arith
 
-pub parts_push : (n : ℕ) (js : List Join) (x : Join) → AllHavePartsBelow n js → HasPartsBelow (n + length js) x → AllHavePartsBelow n (js ++ x ∷ [])
+pub parts_push : (n : ℕ) (js : List Join) (x : Join) → AllHavePartsBelow n js
+    → HasPartsBelow (n + length js) x → AllHavePartsBelow n (js ++ x ∷ [])
 parts_push n [] x h p = (let e : n + 0 ≡ n = omega arith in subst (λ (k : ℕ). HasPartsBelow k x) e p, tt)
-parts_push n (m ∷ js) x h p = (h.0, parts_push (n + 1) js x h.1 (let e : n + (length js + 1) ≡ n + 1 + length js = omega arith in subst (λ (k : ℕ). HasPartsBelow k x) (let f : n + length (m ∷ js) ≡ n + 1 + length js = omega arith in f) p))
+parts_push n (m ∷ js) x h p = (
+  h.0,
+  parts_push (n + 1) js x h.1
+      (let e : n + (length js + 1) ≡ n + 1 + length js = omega arith in
+      subst (λ (k : ℕ). HasPartsBelow k x) (let f : n + length (m ∷ js) ≡ n + 1 + length js = omega arith in f) p),
+)
 
 pub parts_at : (n : ℕ) (js : List Join) (i : ℕ) (x : Join) → AllHavePartsBelow n js → i < length js → HasPartsBelow (n + i) (get_or js i x)
 parts_at n [] i x h lt = absurd (omega arith)
 parts_at n (m ∷ js) zero x h lt = let e : n ≡ n + 0 = omega arith in subst (λ (k : ℕ). HasPartsBelow k m) e h.0
-parts_at n (m ∷ js) (suc i) x h lt = let e : n + 1 + i ≡ n + suc i = omega arith in subst (λ (k : ℕ). HasPartsBelow k (get_or js i x)) e (parts_at (n + 1) js i x h.1 (omega arith))
+parts_at n (m ∷ js) (suc i) x h lt = let e : n + 1 + i ≡ n + suc i = omega arith in
+    subst (λ (k : ℕ). HasPartsBelow k (get_or js i x)) e (parts_at (n + 1) js i x h.1 (omega arith))
 
 -- in the words of the contracts
 pub lists_push : (js : List Join) (n : Join) → lists_of (js ++ n ∷ []) ≡ lists_of js ++ list_of_join (λ i. get_or (lists_of js) i []) n ∷ []
@@ -96,11 +107,15 @@ lists_push js n = values_push [] list_of_join [] js n
 pub length_lists : (js : List Join) → length (lists_of js) ≡ length js
 length_lists js = omega (arith, length_values [] list_of_join [] js)
 
-pub list_at : (js : List Join) (i : ℕ) (x : Join) → AllHavePartsBelow 0 js → i < length js → get_or (lists_of js) i [] ≡ list_of_join (λ j. get_or (lists_of js) j []) (get_or js i x)
-list_at js i x h lt = let e : i ≡ 0 + i = omega arith in ap (λ k. get_or (lists_of js) k []) e ∙ value_at [] list_of_join list_local [] js i x h lt
+pub list_at : (js : List Join) (i : ℕ) (x : Join) → AllHavePartsBelow 0 js → i < length js
+    → get_or (lists_of js) i [] ≡ list_of_join (λ j. get_or (lists_of js) j []) (get_or js i x)
+list_at js i x h lt = let e : i ≡ 0 + i = omega arith in
+    ap (λ k. get_or (lists_of js) k []) e ∙ value_at [] list_of_join list_local [] js i x h lt
 
-pub weight_at : (js : List Join) (i : ℕ) (x : Join) → AllHavePartsBelow 0 js → i < length js → get_or (weights_of js) i 0 ≡ weight_of_join (λ j. get_or (weights_of js) j 0) (get_or js i x)
-weight_at js i x h lt = let e : i ≡ 0 + i = omega arith in ap (λ k. get_or (weights_of js) k 0) e ∙ value_at 0 weight_of_join weight_local [] js i x h lt
+pub weight_at : (js : List Join) (i : ℕ) (x : Join) → AllHavePartsBelow 0 js → i < length js
+    → get_or (weights_of js) i 0 ≡ weight_of_join (λ j. get_or (weights_of js) j 0) (get_or js i x)
+weight_at js i x h lt = let e : i ≡ 0 + i = omega arith in
+    ap (λ k. get_or (weights_of js) k 0) e ∙ value_at 0 weight_of_join weight_local [] js i x h lt
 
 -- after one more join x, where `lists` are the lists so far
 module _ (js : List Join) (lists : List (List ℕ)) (x : Join) (is : lists_of js ≡ lists) where
@@ -111,7 +126,8 @@ module _ (js : List Join) (lists : List (List ℕ)) (x : Join) (is : lists_of js
   same_length = sym (length_lists js) ∙ ap (length {A = List ℕ}) is
 
   pub parts_added : AllHavePartsBelow 0 js → HasPartsBelow (length lists) x → AllHavePartsBelow 0 (js ++ x ∷ [])
-  parts_added h p = parts_push 0 js x h (let e : length lists ≡ 0 + length js = omega (arith, same_length) in subst (λ (k : ℕ). HasPartsBelow k x) e p)
+  parts_added h p =
+      parts_push 0 js x h (let e : length lists ≡ 0 + length js = omega (arith, same_length) in subst (λ (k : ℕ). HasPartsBelow k x) e p)
 
   pub get_added : (at : ℕ) → at ≡ length js → get_or (lists_of (js ++ x ∷ [])) at [] ≡ list_of_join (λ i. get_or lists i []) x
   get_added at h =

@@ -12,7 +12,8 @@ use Rattle.hill_valley.specs.Side.{HaveRopes, runs_of}
 get_kept : (old more : List (List ℕ)) (i : ℕ) → i < length old → get_or (old ++ more) i [] ≡ get_or old i []
 get_kept old more i h = grind (arith, common_steps)
 
-piece_kept : (old more : List (List ℕ)) (p : Piece) → IsPiece (length old) p → list_of_piece (λ i. get_or (old ++ more) i []) p ≡ list_of_piece (λ i. get_or old i []) p
+piece_kept : (old more : List (List ℕ)) (p : Piece) → IsPiece (length old) p
+    → list_of_piece (λ i. get_or (old ++ more) i []) p ≡ list_of_piece (λ i. get_or old i []) p
 piece_kept old more Empty h = refl
 piece_kept old more (Task task) h = refl
 piece_kept old more (Joined i) h = get_kept old more i h

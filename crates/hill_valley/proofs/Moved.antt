@@ -16,20 +16,24 @@ pub record Moving (before : Bool) (ropes0 ropes : List (List ℕ)) (from0 into0 
   pub within : net_sum (profile from) + net_sum (profile into) ≤ most_total
 
 module _ (before : Bool) where
-  pub moving_starts : (ropes : List (List ℕ)) (from into : List Seg) → HaveRopes ropes from → HaveRopes ropes into → net_sum (profile from) + net_sum (profile into) ≤ most_total → Moving before ropes ropes from into from into
+  pub moving_starts : (ropes : List (List ℕ)) (from into : List Seg) → HaveRopes ropes from → HaveRopes ropes into
+      → net_sum (profile from) + net_sum (profile into) ≤ most_total → Moving before ropes ropes from into from into
   moving_starts ropes from into f i n = record { told = refl; from_ropes = f; into_ropes = i; kept = extends_self ropes; within = n }
 
-  module _ (ropes0 ropes : List (List ℕ)) (from0 into0 from into rest : List Seg) (s : Seg) (m : Moving before ropes0 ropes from0 into0 from into) (first : from ≡ s ∷ rest) where
+  module _ (ropes0 ropes : List (List ℕ)) (from0 into0 from into rest : List Seg) (s : Seg)
+      (m : Moving before ropes0 ropes from0 into0 from into) (first : from ≡ s ∷ rest) where
     pub moving_first : IsRope ropes s.tasks × (net_sum (profile into) + s.net ≤ most_total)
     moving_first = let r = rw first at m.from_ropes in let n = rw first at m.within in (r.0, omega arith)
 
-    pub moving_on : (ropes' : List (List ℕ)) (into' : List Seg) → Extends ropes ropes' → HaveRopes ropes' into' → runs_of ropes' into' ≡ insert_run before (run_of ropes s) (runs_of ropes into)
+    pub moving_on : (ropes' : List (List ℕ)) (into' : List Seg) → Extends ropes ropes'
+        → HaveRopes ropes' into' → runs_of ropes' into' ≡ insert_run before (run_of ropes s) (runs_of ropes into)
         → net_sum (profile into') ≡ net_sum (profile into) + s.net → Moving before ropes0 ropes' from0 into0 rest into'
     moving_on ropes' into' kept ropes_in put net =
         let r = rw first at m.from_ropes in
         let w = rw first at m.within in
         record {
-          told = ap (λ (l : List Run). move_runs before l (runs_of ropes' into')) (runs_kept ropes ropes' rest r.1 kept) ∙ ap (move_runs before (runs_of ropes rest)) put
+          told = ap (λ (l : List Run). move_runs before l (runs_of ropes' into')) (runs_kept ropes ropes' rest r.1 kept)
+              ∙ ap (move_runs before (runs_of ropes rest)) put
               ∙ ap (λ (l : List Seg). move_runs before (runs_of ropes l) (runs_of ropes into)) (sym first) ∙ m.told;
           from_ropes = ropes_kept ropes ropes' rest r.1 kept;
           into_ropes = ropes_in;

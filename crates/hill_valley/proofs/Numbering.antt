@@ -10,7 +10,8 @@ first_stops : (stop level : ℕ) (ss : List Segment) → level < stop → first_
 first_stops stop level [] h = refl
 first_stops stop level (s ∷ ss) h = grind (arith, nat_tests)
 
-pub first_goes : (stop level : ℕ) (s : Segment) (ss : List Segment) → stop ≤ level → first_down_to stop level (s ∷ ss) ≡ s ∷ first_down_to stop (level - s.net) ss
+pub first_goes : (stop level : ℕ) (s : Segment) (ss : List Segment) → stop ≤ level
+    → first_down_to stop level (s ∷ ss) ≡ s ∷ first_down_to stop (level - s.net) ss
 first_goes stop level s ss h = grind (arith, nat_tests)
 
 abbrev segment_of : Numbers → Segment
@@ -21,19 +22,23 @@ pub record Numbering (stop : ℕ) (whole : List Segment) (at : ℕ) (ss : List S
   pub room : net_sum ss ≤ at
   pub told : segments_listed numbers ++ first_down_to stop at ss ≡ whole
 
-module _ (stop : ℕ) (whole : List Segment) (at : ℕ) (ss : List Segment) (numbers : List Numbers) (n : Numbering stop whole at ss numbers) where
+module _ (stop : ℕ) (whole : List Segment) (at : ℕ) (ss : List Segment)
+    (numbers : List Numbers) (n : Numbering stop whole at ss numbers) where
   pub numbering_stops : at < stop → segments_listed numbers ≡ whole
   numbering_stops h =
-      sym (append-nil (segments_listed numbers)) ∙ ap (λ (l : List Segment). segments_listed numbers ++ l) (sym (first_stops stop at ss h)) ∙ n.told
+      sym (append-nil (segments_listed numbers))
+      ∙ ap (λ (l : List Segment). segments_listed numbers ++ l) (sym (first_stops stop at ss h)) ∙ n.told
 
   pub numbering_ends : ss ≡ [] → segments_listed numbers ≡ whole
-  numbering_ends e = sym (append-nil (segments_listed numbers)) ∙ ap (λ (l : List Segment). segments_listed numbers ++ first_down_to stop at l) (sym e) ∙ n.told
+  numbering_ends e = sym (append-nil (segments_listed numbers))
+      ∙ ap (λ (l : List Segment). segments_listed numbers ++ first_down_to stop at l) (sym e) ∙ n.told
 
   module _ (own : Numbers) (rest : List Segment) (next : ss ≡ segment_of own ∷ rest) where
     pub numbering_fits : own.net ≤ at
     numbering_fits = let r = rw next at n.room in omega arith
 
-    pub numbering_on : stop ≤ at → (numbers' : List Numbers) → numbers' ≡ numbers ++ own ∷ [] → Numbering stop whole (at - own.net) rest numbers'
+    pub numbering_on : stop ≤ at → (numbers' : List Numbers)
+        → numbers' ≡ numbers ++ own ∷ [] → Numbering stop whole (at - own.net) rest numbers'
     numbering_on h numbers' put =
         let s : Segment = segment_of own in
         let later : List Segment = first_down_to stop (at - own.net) rest in

@@ -75,7 +75,8 @@ piece_below n m (Turned i) le h = omega arith
 module _ (js : List Join) (parts : AllHavePartsBelow 0 js) where
   -- the piece's own task and its two lists, in order, are its list
   opened_told : (p : Piece) → IsPiece (length js) p
-      → tasks_opened p ++ pending (λ i. get_or (lists_of js) i []) (parts_opened (join_at js) p) ≡ list_of_piece (λ i. get_or (lists_of js) i []) p
+      → tasks_opened p ++ pending (λ i. get_or (lists_of js) i []) (parts_opened (join_at js) p)
+      ≡ list_of_piece (λ i. get_or (lists_of js) i []) p
   opened_told Empty lt = refl
   opened_told (Task task) lt = refl
   opened_told (Joined i) lt = sym (list_at js i (record { first = Empty; second = Empty }) parts lt)
@@ -83,7 +84,8 @@ module _ (js : List Join) (parts : AllHavePartsBelow 0 js) where
       let at = λ (i : ℕ). get_or (lists_of js) i [] in
       let j = join_at js i in
       rw (turned_told at j.first, turned_told at j.second)
-      (sym (reverse_append (list_of_piece at j.first) (list_of_piece at j.second)) ∙ ap reverse (sym (list_at js i (record { first = Empty; second = Empty }) parts lt)))
+      (sym (reverse_append (list_of_piece at j.first) (list_of_piece at j.second))
+      ∙ ap reverse (sym (list_at js i (record { first = Empty; second = Empty }) parts lt)))
 
   opened_weight : (p : Piece) → IsPiece (length js) p
       → pending_weight (λ i. get_or (weights_of js) i 0) (parts_opened (join_at js) p) < weight_of_piece (λ i. get_or (weights_of js) i 0) p
@@ -102,26 +104,33 @@ module _ (js : List Join) (parts : AllHavePartsBelow 0 js) where
       let h = parts_at 0 js i (record { first = Empty; second = Empty }) parts lt in
       (piece_below (0 + i) (length js) _ (omega arith) h.1, (piece_below (0 + i) (length js) _ (omega arith) h.0, tt))
   opened_below (Turned i) lt =
-      let h = parts_at 0 js i (record { first = Empty; second = Empty }) parts lt in
-      (turned_below (length js) _ (piece_below (0 + i) (length js) _ (omega arith) h.0), (turned_below (length js) _ (piece_below (0 + i) (length js) _ (omega arith) h.1), tt))
+      let h = parts_at 0 js i (record { first = Empty; second = Empty }) parts lt in (
+        turned_below (length js) _ (piece_below (0 + i) (length js) _ (omega arith) h.0),
+        (turned_below (length js) _ (piece_below (0 + i) (length js) _ (omega arith) h.1), tt),
+      )
 
   -- one turn of the loop, where the stack is `rest` below the piece that was taken off
   module _ (rest : List Piece) (top : Piece) (lt : IsPiece (length js) top) where
-    told_step : (list : List ℕ) → (list ++ tasks_opened top) ++ pending (λ i. get_or (lists_of js) i []) (rest ++ parts_opened (join_at js) top)
+    told_step : (list : List ℕ)
+        → (list ++ tasks_opened top) ++ pending (λ i. get_or (lists_of js) i []) (rest ++ parts_opened (join_at js) top)
         ≡ list ++ pending (λ i. get_or (lists_of js) i []) (rest ++ top ∷ [])
     told_step list =
         let at = λ (i : ℕ). get_or (lists_of js) i [] in
         rw (pending_append at rest (parts_opened (join_at js) top), pending_append at rest (top ∷ []))
         (append_assoc list (tasks_opened top) (pending at (parts_opened (join_at js) top) ++ pending at rest)
-        ∙ ap (λ (l : List ℕ). list ++ l) (sym (append_assoc (tasks_opened top) (pending at (parts_opened (join_at js) top)) (pending at rest)) ∙ ap (λ (l : List ℕ). l ++ pending at rest) (opened_told top lt)))
+        ∙ ap (λ (l : List ℕ). list ++ l)
+        (sym (append_assoc (tasks_opened top) (pending at (parts_opened (join_at js) top)) (pending at rest))
+        ∙ ap (λ (l : List ℕ). l ++ pending at rest) (opened_told top lt)))
 
-    weight_step : pending_weight (λ i. get_or (weights_of js) i 0) (rest ++ parts_opened (join_at js) top) < pending_weight (λ i. get_or (weights_of js) i 0) (rest ++ top ∷ [])
+    weight_step : pending_weight (λ i. get_or (weights_of js) i 0) (rest ++ parts_opened (join_at js) top)
+        < pending_weight (λ i. get_or (weights_of js) i 0) (rest ++ top ∷ [])
     weight_step =
         let at = λ (i : ℕ). get_or (weights_of js) i 0 in
         omega (arith, weight_append at rest (parts_opened (join_at js) top), weight_append at rest (top ∷ []), opened_weight top lt)
 
     below_step : AllBelow (length js) (rest ++ top ∷ []) → AllBelow (length js) (rest ++ parts_opened (join_at js) top)
-    below_step h = below_append (length js) rest (parts_opened (join_at js) top) (below_front (length js) rest (top ∷ []) h) (opened_below top lt)
+    below_step h =
+        below_append (length js) rest (parts_opened (join_at js) top) (below_front (length js) rest (top ∷ []) h) (opened_below top lt)
 
 -- the same, as the calls of one turn give it
 pub record Turn (js : List Join) (todo todo' : List Piece) (list list' : List ℕ) : Type 0 where
@@ -132,8 +141,10 @@ pub record Turn (js : List Join) (todo todo' : List Piece) (list list' : List �
 pub top_below : (n : ℕ) (todo rest : List Piece) (top : Piece) → AllBelow n todo → todo ≡ rest ++ top ∷ [] → IsPiece n top
 top_below n todo rest top h e = (below_last n rest (top ∷ []) (rw e at h)).0
 
-pub turn : (js : List Join) (todo rest todo' : List Piece) (list list' : List ℕ) (top : Piece) → AllHavePartsBelow 0 js → AllBelow (length js) todo
-    → todo ≡ rest ++ top ∷ [] → list' ≡ list ++ tasks_opened top → todo' ≡ rest ++ parts_opened (join_at js) top → Turn js todo todo' list list'
+pub turn : (js : List Join) (todo rest todo' : List Piece) (list list' : List ℕ) (top : Piece)
+    → AllHavePartsBelow 0 js → AllBelow (length js) todo
+    → todo ≡ rest ++ top ∷ [] → list' ≡ list ++ tasks_opened top
+    → todo' ≡ rest ++ parts_opened (join_at js) top → Turn js todo todo' list list'
 turn js todo rest todo' list list' top parts below e f g =
     let lt = top_below (length js) todo rest top below e in
     record {

@@ -12,11 +12,13 @@ pub profile_runs : (lists : List (List ℕ)) (ss : List Seg) → run_profile (ru
 profile_runs lists [] = refl
 profile_runs lists (s ∷ ss) = rw (profile_runs lists ss) refl
 
-insert_step : (before : Bool) (r s : Run) (ss : List Run) → run_profile (insert_run before r ss) ≡ insert_segment (run_numbers r) (run_profile ss)
+insert_step : (before : Bool) (r s : Run) (ss : List Run)
+    → run_profile (insert_run before r ss) ≡ insert_segment (run_numbers r) (run_profile ss)
     → run_profile (insert_run before r (s ∷ ss)) ≡ insert_segment (run_numbers r) (run_profile (s ∷ ss))
 insert_step before r s ss ih = grind (arith, nat_tests)
 
-pub profile_insert : (before : Bool) (r : Run) (ss : List Run) → run_profile (insert_run before r ss) ≡ insert_segment (run_numbers r) (run_profile ss)
+pub profile_insert : (before : Bool) (r : Run) (ss : List Run)
+    → run_profile (insert_run before r ss) ≡ insert_segment (run_numbers r) (run_profile ss)
 profile_insert before r [] = refl
 profile_insert before r (s ∷ ss) = insert_step before r s ss (profile_insert before r ss)
 
@@ -35,4 +37,5 @@ tasks_step r s = grind (arith, nat_tests, common_steps)
 pub tasks_append : (r : Run) (ss : List Run) → tasks_of (append_run r ss) ≡ tasks_of ss ++ r.tasks
 tasks_append r [] = grind (arith, common_steps)
 tasks_append r (s ∷ []) = tasks_step r s
-tasks_append r (s ∷ t ∷ ss) = ap (λ (l : List ℕ). s.tasks ++ l) (tasks_append r (t ∷ ss)) ∙ sym (append_assoc s.tasks (tasks_of (t ∷ ss)) r.tasks)
+tasks_append r (s ∷ t ∷ ss) =
+    ap (λ (l : List ℕ). s.tasks ++ l) (tasks_append r (t ∷ ss)) ∙ sym (append_assoc s.tasks (tasks_of (t ∷ ss)) r.tasks)

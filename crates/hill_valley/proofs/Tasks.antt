@@ -13,14 +13,18 @@ pub record Listing (ropes0 ropes : List (List ℕ)) (side0 side : List Seg) (way
   pub rope : IsRope ropes way
   pub kept : Extends ropes0 ropes
 
-pub listing_starts : (ropes0 ropes : List (List ℕ)) (side0 side : List Seg) (way : Rope) → side ≡ side0 → HaveRopes ropes0 side0 → Extends ropes0 ropes → IsRope ropes way → list_of ropes way ≡ [] → Listing ropes0 ropes side0 side way
-listing_starts ropes0 ropes side0 side way s h k r e = rw s (record { told = rw (e, runs_kept ropes0 ropes side0 h k) refl; side_ropes = ropes_kept ropes0 ropes side0 h k; rope = r; kept = k })
+pub listing_starts : (ropes0 ropes : List (List ℕ)) (side0 side : List Seg) (way : Rope) → side ≡ side0 → HaveRopes ropes0 side0
+    → Extends ropes0 ropes → IsRope ropes way → list_of ropes way ≡ [] → Listing ropes0 ropes side0 side way
+listing_starts ropes0 ropes side0 side way s h k r e = rw s
+    (record { told = rw (e, runs_kept ropes0 ropes side0 h k) refl; side_ropes = ropes_kept ropes0 ropes side0 h k; rope = r; kept = k })
 
-module _ (ropes0 ropes : List (List ℕ)) (side0 side rest : List Seg) (way : Rope) (s : Seg) (m : Listing ropes0 ropes side0 side way) (first : side ≡ s ∷ rest) where
+module _ (ropes0 ropes : List (List ℕ)) (side0 side rest : List Seg) (way : Rope)
+    (s : Seg) (m : Listing ropes0 ropes side0 side way) (first : side ≡ s ∷ rest) where
   pub listing_first : IsRope ropes s.tasks
   listing_first = (rw first at m.side_ropes).0
 
-  pub listing_on : (ropes' : List (List ℕ)) (way' : Rope) → Extends ropes ropes' → IsRope ropes' way' → list_of ropes' way' ≡ list_of ropes way ++ list_of ropes s.tasks → Listing ropes0 ropes' side0 rest way'
+  pub listing_on : (ropes' : List (List ℕ)) (way' : Rope) → Extends ropes ropes' → IsRope ropes' way'
+      → list_of ropes' way' ≡ list_of ropes way ++ list_of ropes s.tasks → Listing ropes0 ropes' side0 rest way'
   listing_on ropes' way' kept rope put =
       let r = rw first at m.side_ropes in
       record {

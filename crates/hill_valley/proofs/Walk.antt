@@ -40,7 +40,8 @@ module _ (level : ℕ) (s : Segment) (ss rest : List Segment) (next : ss ≡ s �
       let l = w.low in
       record { room = omega arith; low = omega arith; ups = u.1 }
 
-  go : (limit level : ℕ) (s : Segment) (ss : List Segment) → level + s.up < limit → lowest limit level (s ∷ ss) ≡ lowest limit (level - s.net) ss
+  go : (limit level : ℕ) (s : Segment) (ss : List Segment) → level + s.up < limit
+      → lowest limit level (s ∷ ss) ≡ lowest limit (level - s.net) ss
   go limit level s ss h = grind (arith, nat_tests)
 
   stay : (limit level : ℕ) (s : Segment) (ss : List Segment) → limit ≤ level + s.up → lowest limit level (s ∷ ss) ≡ level
@@ -56,7 +57,8 @@ module _ (level : ℕ) (s : Segment) (ss rest : List Segment) (next : ss ≡ s �
   walk_top most = rw next (omega arith)
 
   pub walk_falls : (most : ℕ) (done : List Step) → 0 < s.net → Walk level ss
-      → combine (add_step (max most (level + s.up)) (level - s.net) done) (staircase (max most (level + s.up)) (level - s.net) rest) ≡ combine done (staircase most level ss)
+      → combine (add_step (max most (level + s.up)) (level - s.net) done) (staircase (max most (level + s.up)) (level - s.net) rest)
+      ≡ combine done (staircase most level ss)
   walk_falls most done some w =
       let r = rw next at w.room in
       rw next (sym (falls most level s rest done some (omega arith)))

@@ -14,7 +14,8 @@ pub of_perm : (system : TaskSystem) (priority : List ℕ) → IsPerm (length sys
 of_perm system priority perm = record { once = perm.once; within = perm.vertices }
 
 -- the priority that comes with a traversal of as many tasks
-pub of_own : (system : TaskSystem) (order priority : List ℕ) → IsTraversal system order → length order ≡ length system.tasks → IsPriority (length order) priority
+pub of_own : (system : TaskSystem) (order priority : List ℕ) → IsTraversal system order
+    → length order ≡ length system.tasks → IsPriority (length order) priority
     → HoldsEach system (priority_or order priority)
 of_own system order [] traversal long is = of_traversal system order traversal
 of_own system order (v ∷ vs) traversal long (inl is) = absurd (cc is)

@@ -7,13 +7,16 @@ use Rattle.mp_system.specs.System.{TaskSystem}
 use Rattle.sp_terms.specs.declared.position.Position.{Position}
 use Rattle.sp_terms.specs.Values.{term_of}
 use Rattle.trees.specs.declared.node.Node.{Node}
-use Rattle.judging.specs.Files.{Answer, HasValue, IsMatrixFile, HasOrdering, IsOrderOf, IsOrderedMatrix, IsOrderFrom, IsMatrixTree, IsTreeOf, IsSystemOf, IsSystemWithTerm, IsFirstRefusal, AreAccepted}
+use Rattle.judging.specs.Files.{Answer, HasValue, IsMatrixFile, HasOrdering, IsOrderOf, IsOrderedMatrix, IsOrderFrom}
+use Rattle.judging.specs.Files.{IsMatrixTree, IsTreeOf, IsSystemOf, IsSystemWithTerm, IsFirstRefusal, AreAccepted}
 use Rattle.judging.specs.Told.{AreTold, HasFailed}
 use Rattle.judging.specs.Judged.{IsStop, IsRefusedOrder, IsMatrixRead, IsProblemOf, IsOrderRead, IsOrderedOf, IsRefusedSource, order_tasks}
 use Rattle.judging.specs.declared.inputs.Order.{Order}
 use Rattle.judging.specs.declared.inputs.OrderedPattern.{OrderedPattern}
 use Rattle.symbolic.specs.FrontTree.{IsFrontTree}
-use Rattle.requests.specs.Request.{Ordering, natural, min_degree, perm_named, OrderedMatrix, Matrix, TreeInput, tree_named, matrix_named, Input, tree_input, workflow_named, NamedFile, OrderSource, order_named, plan_named, matrix_file, ordering_files, ordered_matrix_files, matrix_files, tree_input_files, input_files, source_file}
+use Rattle.requests.specs.Request.{Ordering, natural, min_degree, perm_named, OrderedMatrix, Matrix, TreeInput, tree_named, matrix_named}
+use Rattle.requests.specs.Request.{Input, tree_input, workflow_named, NamedFile, OrderSource, order_named, plan_named, matrix_file}
+use Rattle.requests.specs.Request.{ordering_files, ordered_matrix_files, matrix_files, tree_input_files, input_files, source_file}
 use Rattle.judging.specs.Pages.{answer_of}
 use Rattle.judging.specs.declared.stop.Stop.{Stop}
 use Rattle.judging.specs.declared.stop.Stop.TheVariants as stops
@@ -54,9 +57,11 @@ module _ (told now : List ℕ → Option (List ℕ)) (same : (name : List ℕ) �
   ordering_stop min_degree stops.NoMemory h = tt
   ordering_stop (perm_named perm) e h =
       stop_after told now same before then after le (matrix_at (perm_named perm) name ∷ [])
-      (alone_told told (matrix_at (perm_named perm) name) (AreAccepted (matrix_at (perm_named perm) name ∷ []) []) (λ text is. ((rows, is_matrix text is, tt), tt)))
+      (alone_told told (matrix_at (perm_named perm) name)
+      (AreAccepted (matrix_at (perm_named perm) name ∷ []) []) (λ text is. ((rows, is_matrix text is, tt), tt)))
       (ordering_files (perm_named perm)) (omega arith) (IsRefusedOrder (perm_named perm) rows)
-      (λ one two answer are more refused. alone_told told (matrix_at (perm_named perm) name) (λ texts. IsFirstRefusal (ordering_files (perm_named perm)) texts two answer)
+      (λ one two answer are more refused.
+      alone_told told (matrix_at (perm_named perm) name) (λ texts. IsFirstRefusal (ordering_files (perm_named perm)) texts two answer)
       (λ text is. perm_refused rows perm text two answer (is_matrix text is) refused) one are) e h
 
 can_be_ordered : (o : Ordering) (rows texts : List (List ℕ)) (order : List ℕ) → IsOrderOf o rows texts order → HasOrdering o (length rows)
@@ -65,7 +70,8 @@ can_be_ordered min_degree rows [] order is = is.0
 can_be_ordered min_degree rows (text ∷ texts) order is = absurd is
 can_be_ordered (perm_named name) rows texts order is = tt
 
-order_accepted : (o : Ordering) (matrix : List ℕ) (rows : List (List ℕ)) (texts : List (List ℕ)) (order : List ℕ) → IsMatrixFile matrix rows → IsOrderOf o rows texts order
+order_accepted : (o : Ordering) (matrix : List ℕ) (rows : List (List ℕ)) (texts : List (List ℕ)) (order : List ℕ)
+    → IsMatrixFile matrix rows → IsOrderOf o rows texts order
     → AreAccepted (ordering_files o) (matrix ∷ []) texts
 order_accepted natural matrix rows texts order is is_order = tt
 order_accepted min_degree matrix rows texts order is is_order = tt
@@ -85,51 +91,62 @@ pub matrix_tree : (m : Matrix) (texts : List (List ℕ)) (read : OrderedPattern)
 matrix_tree m [] read nodes is tree = absurd is
 matrix_tree m (text ∷ texts) read nodes is tree = (read.pattern, read.order, is.0, is.1, tree)
 
-pub matrix_accepted : (m : Matrix) (texts : List (List ℕ)) (nodes : List Node) → IsMatrixTree m texts nodes → AreAccepted (matrix_files m) [] texts
+pub matrix_accepted : (m : Matrix) (texts : List (List ℕ)) (nodes : List Node)
+    → IsMatrixTree m texts nodes → AreAccepted (matrix_files m) [] texts
 matrix_accepted m [] nodes is = absurd is
 matrix_accepted m (text ∷ texts) nodes (rows, order, matrix, is_order, fronts) =
     ((rows, matrix, can_be_ordered m.ordering rows texts order is_order), order_accepted m.ordering text rows texts order matrix is_order)
 
-pub tree_accepted : (input : TreeInput) (texts : List (List ℕ)) (nodes : List Node) → IsTreeOf input texts nodes → AreAccepted (tree_input_files input) [] texts
+pub tree_accepted : (input : TreeInput) (texts : List (List ℕ)) (nodes : List Node)
+    → IsTreeOf input texts nodes → AreAccepted (tree_input_files input) [] texts
 tree_accepted (tree_named name) [] nodes is = absurd is
 tree_accepted (tree_named name) (text ∷ []) nodes is = ((nodes, is), tt)
 tree_accepted (tree_named name) (text ∷ more ∷ texts) nodes is = absurd is
 tree_accepted (matrix_named m) texts nodes is = matrix_accepted m texts nodes is
 
-pub input_accepted : (input : Input) (texts : List (List ℕ)) (system : TaskSystem) → IsSystemOf input texts system → AreAccepted (input_files input) [] texts
+pub input_accepted : (input : Input) (texts : List (List ℕ)) (system : TaskSystem)
+    → IsSystemOf input texts system → AreAccepted (input_files input) [] texts
 input_accepted (tree_input input) texts system (nodes, is, same) = tree_accepted input texts nodes is
 input_accepted (workflow_named name) [] system is = absurd is
 input_accepted (workflow_named name) (text ∷ []) system (positions, term, workflow, denotes, same) = ((positions, workflow), tt)
 input_accepted (workflow_named name) (text ∷ more ∷ texts) system is = absurd is
 
 -- the same with its term
-pub work_has_system : (input : Input) (texts : List (List ℕ)) (system : TaskSystem) (positions : List Position) → IsSystemWithTerm input texts system positions → IsSystemOf input texts system
+pub work_has_system : (input : Input) (texts : List (List ℕ)) (system : TaskSystem) (positions : List Position)
+    → IsSystemWithTerm input texts system positions → IsSystemOf input texts system
 work_has_system (tree_input input) texts system positions (nodes, forest, is, same, is_forest, term) = (nodes, is, same)
 work_has_system (workflow_named name) [] system positions is = absurd is
-work_has_system (workflow_named name) (text ∷ []) system positions (term, workflow, denotes, same) = (positions, term, workflow, denotes, same)
+work_has_system (workflow_named name) (text ∷ []) system positions (term, workflow, denotes, same) =
+    (positions, term, workflow, denotes, same)
 work_has_system (workflow_named name) (text ∷ more ∷ texts) system positions is = absurd is
 
 -- ---- what an input is read as
 
-pub problem_has_system : (input : Input) (texts : List (List ℕ)) (origin : Origin) → IsProblemOf input texts origin → IsSystemOf input texts (system_of origin)
+pub problem_has_system : (input : Input) (texts : List (List ℕ)) (origin : Origin)
+    → IsProblemOf input texts origin → IsSystemOf input texts (system_of origin)
 problem_has_system (tree_input input) texts (origins.Tree nodes) is = (nodes, is, refl)
 problem_has_system (tree_input input) texts (origins.Workflow positions) is = absurd is
 problem_has_system (workflow_named name) [] origin is = absurd is
 problem_has_system (workflow_named name) (text ∷ []) (origins.Tree nodes) is = absurd is
-problem_has_system (workflow_named name) (text ∷ []) (origins.Workflow positions) (workflow, denotes) = (positions, term_of positions, workflow, denotes, refl)
+problem_has_system (workflow_named name) (text ∷ []) (origins.Workflow positions) (workflow, denotes) =
+    (positions, term_of positions, workflow, denotes, refl)
 problem_has_system (workflow_named name) (text ∷ more ∷ texts) origin is = absurd is
 
-pub problem_has_term : (input : Input) (texts : List (List ℕ)) (origin : Origin) (positions : List Position) → IsProblemOf input texts origin → IsTermOf origin positions
+pub problem_has_term : (input : Input) (texts : List (List ℕ)) (origin : Origin) (positions : List Position)
+    → IsProblemOf input texts origin → IsTermOf origin positions
     → IsSystemWithTerm input texts (system_of origin) positions
-problem_has_term (tree_input input) texts (origins.Tree nodes) positions is (forest, is_forest, term) = (nodes, forest, is, refl, is_forest, term)
+problem_has_term (tree_input input) texts (origins.Tree nodes) positions is (forest, is_forest, term) =
+    (nodes, forest, is, refl, is_forest, term)
 problem_has_term (tree_input input) texts (origins.Workflow own) positions is term = absurd is
 problem_has_term (workflow_named name) [] origin positions is term = absurd is
 problem_has_term (workflow_named name) (text ∷ []) (origins.Tree nodes) positions is term = absurd is
 problem_has_term (workflow_named name) (text ∷ []) (origins.Workflow own) positions (workflow, denotes) term =
-    subst (λ ps. IsSystemWithTerm (workflow_named name) (text ∷ []) (system_of (origins.Workflow own)) ps) (sym term) (term_of own, workflow, denotes, refl)
+    subst (λ ps. IsSystemWithTerm (workflow_named name) (text ∷ []) (system_of (origins.Workflow own)) ps)
+    (sym term) (term_of own, workflow, denotes, refl)
 problem_has_term (workflow_named name) (text ∷ more ∷ texts) origin positions is term = absurd is
 
-pub problem_accepted : (input : Input) (texts : List (List ℕ)) (origin : Origin) → IsProblemOf input texts origin → AreAccepted (input_files input) [] texts
+pub problem_accepted : (input : Input) (texts : List (List ℕ)) (origin : Origin)
+    → IsProblemOf input texts origin → AreAccepted (input_files input) [] texts
 problem_accepted input texts origin is = input_accepted input texts (system_of origin) (problem_has_system input texts origin is)
 
 -- ---- and the order of a source
@@ -140,7 +157,8 @@ source_refused source earlier [] answer refused = absurd refused
 source_refused source earlier (text ∷ []) answer refused = inl (refused earlier)
 source_refused source earlier (text ∷ more ∷ texts) answer refused = absurd refused
 
-pub source_accepted : (source : OrderSource) (earlier : List (List ℕ)) (text numbers : List ℕ) → IsOrderFrom source text numbers → HasValue (source_file source).role earlier text
+pub source_accepted : (source : OrderSource) (earlier : List (List ℕ)) (text numbers : List ℕ)
+    → IsOrderFrom source text numbers → HasValue (source_file source).role earlier text
 source_accepted (order_named name) earlier text numbers is = (numbers, is)
 source_accepted (plan_named name) earlier text numbers (plan, is, same) = (plan, is)
 
@@ -148,7 +166,8 @@ source_accepted (plan_named name) earlier text numbers (plan, is, same) = (plan,
 module _ (told : List ℕ → Option (List ℕ)) (input : Input) (source : OrderSource) (problem : Origin) (order : Order)
     (is_problem : (texts : List (List ℕ)) → AreTold told (input_files input) texts → IsProblemOf input texts problem)
     (is_order : (texts : List (List ℕ)) → AreTold told (source_file source ∷ []) texts → IsOrderRead source texts order) where
-  of_texts : (mine two : List (List ℕ)) → AreTold told (input_files input) mine → AreTold told (source_file source ∷ []) two → IsOrderRead source two order
+  of_texts : (mine two : List (List ℕ)) → AreTold told (input_files input) mine
+      → AreTold told (source_file source ∷ []) two → IsOrderRead source two order
       → IsOrderedOf input source (mine ++ two) (record { problem = problem; order = order })
   of_texts mine [] are more read = absurd more
   of_texts mine (text ∷ more ∷ two) are is read = absurd read
@@ -159,12 +178,14 @@ module _ (told : List ℕ → Option (List ℕ)) (input : Input) (source : Order
     is_problem = is_problem mine are;
     is_order = read;
     accepted =
-        accepted_after told (input_files input) (source_file source ∷ []) [] mine (text ∷ []) are (problem_accepted input mine problem (is_problem mine are))
+        accepted_after told (input_files input) (source_file source ∷ []) [] mine
+        (text ∷ []) are (problem_accepted input mine problem (is_problem mine are))
         (source_accepted source mine text (order_tasks order) read.0, tt);
   }
 
   pub ordered : (texts : List (List ℕ)) → AreTold told (input_files input ++ source_file source ∷ []) texts
       → IsOrderedOf input source texts (record { problem = problem; order = order })
   ordered =
-      over_both told (input_files input) (source_file source ∷ []) (λ texts. IsOrderedOf input source texts (record { problem = problem; order = order }))
+      over_both told (input_files input) (source_file source ∷ [])
+      (λ texts. IsOrderedOf input source texts (record { problem = problem; order = order }))
       (λ mine two are more. of_texts mine two are more (is_order two more))

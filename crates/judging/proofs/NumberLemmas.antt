@@ -1,11 +1,13 @@
 -- The positions of tasks, and which of them is that of the task of a name.
-use Rattle.std.proofs.Common.{◌≡◌, ◌≢◌, ◌∙◌, ℕ, zero, suc, ◌+◌, ◌-◌, ◌<◌, ◌≤◌, eqb, eq-eqb, ne_eqb, List, [], ◌∷◌, ◌++◌, length, map, take, get_or, refl, sym, ap, subst, inl, inr, arith, length-append, length-take-le, IsPermutation}
+use Rattle.std.proofs.Common.{◌≡◌, ◌≢◌, ◌∙◌, ℕ, zero, suc, ◌+◌, ◌-◌, ◌<◌, ◌≤◌, eqb, eq-eqb, ne_eqb, List, [], ◌∷◌, ◌++◌, length, map}
+use Rattle.std.proofs.Common.{take, get_or, refl, sym, ap, subst, inl, inr, arith, length-append, length-take-le, IsPermutation}
 use Rattle.std.specs.Prelude.{Contains}
 use Rattle.std.specs.List.{range_with_len, IsDistinct}
 use Rattle.std.proofs.lemmas.Bool.{cases_lt}
 use Rattle.std.proofs.lemmas.Grind.{get_or_default_zero}
 use Rattle.std.proofs.lemmas.List.{take_more, ext_get_or}
-use Rattle.std.proofs.lemmas.List.FromFn.{length-range_with_len, get_or-range_with_len, length-map-range_with_len, get_or-map-range_with_len}
+use Rattle.std.proofs.lemmas.List.FromFn.{length-range_with_len, get_or-range_with_len, length-map-range_with_len}
+use Rattle.std.proofs.lemmas.List.FromFn.{get_or-map-range_with_len}
 use Rattle.std.proofs.lemmas.List.Sorted.{IsPermutation-sym, All-permutation, Contains-permutation, length_permutation}
 use Rattle.std.proofs.lemmas.Map.Keys.{IsDistinct-IsPermutation, IsDistinct-from_apart, apart_from_distinct}
 use Rattle.sp_terms.specs.declared.position.Position.{Position}
@@ -19,7 +21,8 @@ use Rattle.judging.specs.Numbered.{task_positions, position_named, node_position
 
 -- ---- the positions of tasks
 
-pub tasks-append : (k j : ℕ) (ps qs : List Position) → k + length ps ≡ j → task_positions k (ps ++ qs) ≡ task_positions k ps ++ task_positions j qs
+pub tasks-append : (k j : ℕ) (ps qs : List Position) → k + length ps ≡ j
+    → task_positions k (ps ++ qs) ≡ task_positions k ps ++ task_positions j qs
 tasks-append k j [] qs e = let same : k ≡ j = omega (arith, e) in ap (λ (i : ℕ). task_positions i qs) same
 tasks-append k j (Hold size ∷ ps) qs e = tasks-append (k + 1) j ps qs (omega (arith, e))
 tasks-append k j (at.Task extra share time ∷ ps) qs e = ap (λ (ks : List ℕ). k ∷ ks) (tasks-append (k + 1) j ps qs (omega (arith, e)))
@@ -80,9 +83,11 @@ tree_tasks nodes (tree v below others) k =
     let i = k + length first in
     let j = k + length (first ++ beside) in
     let l = k + length ((first ++ beside) ++ own) in
-    let one : length (task_positions k (((first ++ beside) ++ own) ++ rest)) ≡ length (task_positions k ((first ++ beside) ++ own)) + length (task_positions l rest) =
+    let one : length (task_positions k (((first ++ beside) ++ own) ++ rest))
+    ≡ length (task_positions k ((first ++ beside) ++ own)) + length (task_positions l rest) =
     count k l ((first ++ beside) ++ own) rest refl in
-    let two : length (task_positions k ((first ++ beside) ++ own)) ≡ length (task_positions k (first ++ beside)) + length (task_positions j own) =
+    let two : length (task_positions k ((first ++ beside) ++ own))
+    ≡ length (task_positions k (first ++ beside)) + length (task_positions j own) =
     count k j (first ++ beside) own refl in
     let three : length (task_positions k (first ++ beside)) ≡ length (task_positions k first) + length (task_positions i beside) =
     count k i first beside refl in
@@ -125,10 +130,18 @@ names_of names n is =
     let distinct : IsDistinct eqb names = IsDistinct-IsPermutation eqb eqb_flips (range_with_len 1 n) names back
     (IsDistinct-from_apart eqb (range_with_len 1 n) (λ i j d ij jn.
     let few = length-range_with_len 1 n in
-    ne_eqb _ _ (λ e. omega (arith, e, ij, get_or-range_with_len 1 n i d (omega (arith, ij, jn, few)), get_or-range_with_len 1 n j d (omega (arith, jn, few)))))) in
+    ne_eqb _ _ (λ e. omega (
+      arith,
+      e,
+      ij,
+      get_or-range_with_len 1 n i d (omega (arith, ij, jn, few)),
+      get_or-range_with_len 1 n j d (omega (arith, jn, few)),
+    )))) in
     record {
-      within = subst (λ (m : ℕ). AreWithin m names) (sym long) (All-permutation (λ k. (1 ≤ k) × (k ≤ n)) (range_with_len 1 n) names back (range_within n));
-      once = λ i j ij jn e. absurd (cc (sym (apart_from_distinct eqb names i j 0 distinct ij jn) ∙ eq-eqb (get_or names i 0) (get_or names j 0) e));
+      within = subst (λ (m : ℕ). AreWithin m names) (sym long)
+          (All-permutation (λ k. (1 ≤ k) × (k ≤ n)) (range_with_len 1 n) names back (range_within n));
+      once = λ i j ij jn e.
+          absurd (cc (sym (apart_from_distinct eqb names i j 0 distinct ij jn) ∙ eq-eqb (get_or names i 0) (get_or names j 0) e));
       each = λ v low high. Contains-permutation (range_with_len 1 n) names v back (held v n low (omega (arith, high, long)));
     }
   where
@@ -136,7 +149,11 @@ names_of names n is =
     eqb_flips x y = grind arith
 
     held : (v n : ℕ) → 1 ≤ v → v ≤ n → Contains (range_with_len 1 n) v
-    held v n low high = (v - 1, omega (arith, low, high, length-range_with_len 1 n), get_or-range_with_len 1 n (v - 1) v (omega (arith, low, high)) ∙ omega (arith, low))
+    held v n low high = (
+      v - 1,
+      omega (arith, low, high, length-range_with_len 1 n),
+      get_or-range_with_len 1 n (v - 1) v (omega (arith, low, high)) ∙ omega (arith, low),
+    )
 
 -- the position of the task of a name
 pub position_at : (v i : ℕ) (names ks : List ℕ) → i < length names → i < length ks → get_or names i 0 ≡ v
@@ -175,10 +192,12 @@ module _ (names ks : List ℕ) (are : IsNaming names) (many : length ks ≡ leng
       let here : get_or names i 0 - 1 ≡ q = omega (arith, is) in
       subst (λ (p : ℕ). get_or named p 0 ≡ get_or ks i 0) here (each i found.1)
       ∙ sym (position_there i found.1) ∙ ap (λ (v : ℕ). position_named v names ks) is
-      ∙ sym (get_or-map-range_with_len (λ v. position_named v names ks) 1 (length names) q (q + 1) 0 (omega (arith, h, long)) (omega arith)))
+      ∙ sym
+      (get_or-map-range_with_len (λ v. position_named v names ks) 1 (length names) q (q + 1) 0 (omega (arith, h, long)) (omega arith)))
 
   -- each name has a position
-  pub named_within : (most : ℕ) → AreWithin most ks → AreWithin most (map (λ v. position_named v names ks) (range_with_len 1 (length names)))
+  pub named_within : (most : ℕ) → AreWithin most ks
+      → AreWithin most (map (λ v. position_named v names ks) (range_with_len 1 (length names)))
   named_within most within q d h =
       let few = length-map-range_with_len (λ v. position_named v names ks) 1 (length names) in
       let found = are.each (q + 1) (omega arith) (omega (arith, h, few)) in
@@ -186,14 +205,17 @@ module _ (names ks : List ℕ) (are : IsNaming names) (many : length ks ≡ leng
       let is : get_or names i 0 ≡ q + 1 = sym (get_or_default_zero names i (q + 1) found.1) ∙ found.2 in
       let value : get_or ks i 0 ≡ get_or (map (λ v. position_named v names ks) (range_with_len 1 (length names))) q d =
       sym (position_there i found.1) ∙ ap (λ (v : ℕ). position_named v names ks) is
-      ∙ sym (get_or-map-range_with_len (λ v. position_named v names ks) 1 (length names) q (q + 1) d (omega (arith, h, few)) (omega arith)) in
+      ∙ sym (get_or-map-range_with_len (λ v. position_named v names ks) 1
+      (length names) q (q + 1) d (omega (arith, h, few)) (omega arith)) in
       subst (λ (k : ℕ). (1 ≤ k) × (k ≤ most)) value (within i 0 (omega (arith, found.1, many)))
 
-pub nodes_within : (names : List ℕ) (ps : List Position) → IsNaming names → length (task_positions 1 ps) ≡ length names → AreWithin (length ps) (node_positions names ps)
+pub nodes_within : (names : List ℕ) (ps : List Position) → IsNaming names
+    → length (task_positions 1 ps) ≡ length names → AreWithin (length ps) (node_positions names ps)
 nodes_within names ps are many = named_within names (task_positions 1 ps) are many (length ps) (tasks_within ps)
 
 -- those of the nodes of a forest
-pub forest_within : (nodes : List Node) (f : Forest) (ps : List Position) → ps ≡ forest_positions nodes f → IsPermutation (all_numbers f) (range_with_len 1 (length nodes))
+pub forest_within : (nodes : List Node) (f : Forest) (ps : List Position)
+    → ps ≡ forest_positions nodes f → IsPermutation (all_numbers f) (range_with_len 1 (length nodes))
     → AreWithin (length ps) (node_positions (all_numbers f) ps)
 forest_within nodes f ps is each =
     nodes_within (all_numbers f) ps (names_of (all_numbers f) (length nodes) each)

@@ -23,19 +23,22 @@ use Rattle.least_peak.specs.Named.{IsNamedBy, IsNamedTerm, order_named}
 -- ---- an order under the names of a system
 
 abbrev Traversals : Type 0
-Traversals = (names : List ℕ) (own named : TaskSystem) (order : List ℕ) → IsRenamed names own named → IsTraversal own order ↔ IsTraversal named (map (name_in names) order)
+Traversals = (names : List ℕ) (own named : TaskSystem) (order : List ℕ)
+    → IsRenamed names own named → IsTraversal own order ↔ IsTraversal named (map (name_in names) order)
 
 abbrev Peaks : Type 0
 Peaks =
     (names : List ℕ) (own named : TaskSystem) (order : List ℕ) → IsRenamed names own named → IsTraversal own order
     → peak_of named (map (name_in names) order) ≡ peak_of own order
 
-pub traversal_named : Traversals → (names : Option (List ℕ)) (own system : TaskSystem) (order : List ℕ) → IsNamedBy names own system → IsTraversal own order
+pub traversal_named : Traversals → (names : Option (List ℕ)) (own system : TaskSystem) (order : List ℕ)
+    → IsNamedBy names own system → IsTraversal own order
     → IsTraversal system (order_named names order)
 traversal_named law None own system order same walks = subst (λ s. IsTraversal s order) same walks
 traversal_named law (Some names) own system order same walks = (law names own system order same).0 walks
 
-pub peak_named : Peaks → (names : Option (List ℕ)) (own system : TaskSystem) (order : List ℕ) → IsNamedBy names own system → IsTraversal own order
+pub peak_named : Peaks → (names : Option (List ℕ)) (own system : TaskSystem) (order : List ℕ)
+    → IsNamedBy names own system → IsTraversal own order
     → peak_of system (order_named names order) ≡ peak_of own order
 peak_named law None own system order same walks = ap (λ s. peak_of s order) (sym same)
 peak_named law (Some names) own system order same walks = law names own system order same walks
@@ -54,19 +57,23 @@ small_tasks system order is walks = All-weaker (IsTask system) (λ v. v ≤ 4294
 -- ---- a plan of the term, with its order under the names
 
 module _
-    (traversals : Traversals) (peaks : Peaks) (long : (system : TaskSystem) (order : List ℕ) → IsTraversal system order → length order ≡ length system.tasks)
+    (traversals : Traversals) (peaks : Peaks)
+    (long : (system : TaskSystem) (order : List ℕ) → IsTraversal system order → length order ≡ length system.tasks)
     (system : TaskSystem) (positions : List Position) (names : Option (List ℕ)) (term : IsNamedTerm names positions system)
-    (order : List ℕ) (peak : ℕ) (walks : IsTraversal (system_of_term (term_of positions)) order) (peak_is : peak_of (system_of_term (term_of positions)) order ≡ peak)
+    (order : List ℕ) (peak : ℕ) (walks : IsTraversal (system_of_term (term_of positions)) order)
+    (peak_is : peak_of (system_of_term (term_of positions)) order ≡ peak)
     (named : List ℕ) (named_is : named ≡ order_named names order) where
   walks_named : IsTraversal system named
   walks_named =
-      subst (IsTraversal system) (sym named_is) (traversal_named traversals names (system_of_term (term_of positions)) system order term.named walks)
+      subst (IsTraversal system) (sym named_is)
+      (traversal_named traversals names (system_of_term (term_of positions)) system order term.named walks)
 
   peak_is_named : peak_of system named ≡ peak
   peak_is_named =
       ap (peak_of system) named_is ∙ peak_named peaks names (system_of_term (term_of positions)) system order term.named walks ∙ peak_is
 
-  pub plan_within : (claims : List Claim) (priority : List ℕ) → priority ≡ [] → peak ≤ most_total → length claims ≤ most_positions → All IsClaimWithin claims → RiseFrom 0 claims
+  pub plan_within : (claims : List Claim) (priority : List ℕ) → priority ≡ [] → peak ≤ most_total
+      → length claims ≤ most_positions → All IsClaimWithin claims → RiseFrom 0 claims
       → IsPlan (record { order = named; peak = peak; claims = claims; priority = priority })
   plan_within claims priority none small few within rising = record {
     few_tasks = few_tasks system named term.within (long system named walks_named);
@@ -78,7 +85,8 @@ module _
     priority = inl none;
   }
 
-  pub plan_accepted : (plan : PlanValue) → plan.order ≡ named → plan.peak ≡ peak → HasRoot positions plan → ((k : ℕ) → PassesAt positions (claim_at plan.claims) k)
+  pub plan_accepted : (plan : PlanValue) → plan.order ≡ named → plan.peak ≡ peak
+      → HasRoot positions plan → ((k : ℕ) → PassesAt positions (claim_at plan.claims) k)
       → IsAccepted system positions plan
   plan_accepted plan same_order same_peak root pass = record {
     traversal = subst (IsTraversal system) (sym same_order) walks_named;
@@ -90,24 +98,30 @@ module _
 -- ---- accepted plans
 
 abbrev Own : Type 0
-Own = (ps : List Position) (plan : PlanValue) → IsTerms ps → IsAccepted (system_of_term (term_of ps)) ps plan → IsLeast (system_of_term (term_of ps)) plan.peak
+Own = (ps : List Position) (plan : PlanValue) → IsTerms ps
+    → IsAccepted (system_of_term (term_of ps)) ps plan → IsLeast (system_of_term (term_of ps)) plan.peak
 
 abbrev Renamed : Type 0
 Renamed =
-    (names : List ℕ) (system : TaskSystem) (ps : List Position) (plan : PlanValue) → IsTerms ps → IsRenamed names (system_of_term (term_of ps)) system
+    (names : List ℕ) (system : TaskSystem) (ps : List Position) (plan : PlanValue)
+    → IsTerms ps → IsRenamed names (system_of_term (term_of ps)) system
     → IsAccepted system ps plan → IsLeast system plan.peak
 
-least_named : Own → Renamed → (names : Option (List ℕ)) (system : TaskSystem) (ps : List Position) → IsTerms ps → IsNamedBy names (system_of_term (term_of ps)) system
+least_named : Own → Renamed → (names : Option (List ℕ)) (system : TaskSystem) (ps : List Position)
+    → IsTerms ps → IsNamedBy names (system_of_term (term_of ps)) system
     → (plan : PlanValue) → IsAccepted system ps plan → IsLeast system plan.peak
 least_named own renamed None system ps terms same plan accepted =
     subst (λ s. IsLeast s plan.peak) same (own ps plan terms (subst (λ s. IsAccepted s ps plan) (sym same) accepted))
 least_named own renamed (Some names) system ps terms same plan accepted = renamed names system ps plan terms same accepted
 
 -- the peak of a plan that is accepted is least
-pub accepted_is_least : Own → Renamed → (names : Option (List ℕ)) (positions : List Position) (system : TaskSystem) → IsNamedTerm names positions system → (plan : PlanValue) → IsAccepted system positions plan → IsLeast system plan.peak
-accepted_is_least own renamed names positions system term plan accepted = least_named own renamed names system positions term.terms term.named plan accepted
+pub accepted_is_least : Own → Renamed → (names : Option (List ℕ)) (positions : List Position) (system : TaskSystem)
+    → IsNamedTerm names positions system → (plan : PlanValue) → IsAccepted system positions plan → IsLeast system plan.peak
+accepted_is_least own renamed names positions system term plan accepted =
+    least_named own renamed names system positions term.terms term.named plan accepted
 
-pub accepted_is_best : Own → Renamed → (names : Option (List ℕ)) (positions : List Position) (system : TaskSystem) → IsNamedTerm names positions system
+pub accepted_is_best : Own → Renamed
+    → (names : Option (List ℕ)) (positions : List Position) (system : TaskSystem) → IsNamedTerm names positions system
     → (plan : PlanValue) → IsAccepted system positions plan → IsBestTraversal system plan.order plan.peak
 accepted_is_best own renamed names positions system term plan accepted = record {
   traversal = accepted.traversal;
@@ -117,7 +131,8 @@ accepted_is_best own renamed names positions system term plan accepted = record 
 
 -- ---- the plan of a workflow
 
-pub workflow_accepted : (origin : Origin) (own : List Position) → origin ≡ origins.Workflow own → IsTerms own → IsSystem (system_of_term (term_of own))
+pub workflow_accepted : (origin : Origin) (own : List Position)
+    → origin ≡ origins.Workflow own → IsTerms own → IsSystem (system_of_term (term_of own))
     → (plan : PlanValue) → ((system : TaskSystem) → IsNamedTerm None own system → IsAccepted system own plan)
     → (positions : List Position) × IsTermOf origin positions × IsAccepted (system_of origin) positions plan
 workflow_accepted origin own is terms within plan accepted =

@@ -1,5 +1,6 @@
 -- How many tasks a term has.
-use Rattle.std.proofs.Common.{◌≡◌, ◌∙◌, ◌+◌, ◌-◌, ◌<◌, ℕ, List, [], ◌∷◌, ◌++◌, refl, sym, ap, subst, get_or, length, take, arith, length-append}
+use Rattle.std.proofs.Common.{◌≡◌, ◌∙◌, ◌+◌, ◌-◌, ◌<◌, ℕ, List, [], ◌∷◌, ◌++◌, refl, sym}
+use Rattle.std.proofs.Common.{ap, subst, get_or, length, take, arith, length-append}
 use Rattle.std.specs.List.{sum_by}
 use Rattle.std.proofs.lemmas.List.Sums.{sum_by-append, sum_by_more}
 use Rattle.mp_system.specs.declared.system.Task.{Task}
@@ -33,7 +34,8 @@ mutual
 at_done : (ps : List Position) (k : ℕ) (d p : Position) → p ≡ get_or ps (k + 1 - 1) d → get_or ps k d ≡ p
 at_done ps k d p is = subst (λ (i : ℕ). get_or ps i d ≡ p) (omega arith) (sym is)
 
-more : (ps : List Position) (k : ℕ) (d p : Position) (many : ℕ) → k < length ps → p ≡ get_or ps (k + 1 - 1) d → many ≡ sum_by added_tasks (take k ps)
+more : (ps : List Position) (k : ℕ) (d p : Position) (many : ℕ) → k < length ps
+    → p ≡ get_or ps (k + 1 - 1) d → many ≡ sum_by added_tasks (take k ps)
     → many + added_tasks p ≡ sum_by added_tasks (take (k + 1) ps)
 more ps k d p many lt is e = omega (arith, e, sum_by_more added_tasks ps k d lt, ap added_tasks (at_done ps k d p is))
 
@@ -42,7 +44,8 @@ pub one_more : (ps : List Position) (k : ℕ) (d p : Position) (extra share time
 one_more ps k d p extra share time many lt is task e = omega (arith, more ps k d p many lt is e, ap added_tasks task)
 
 pub no_more : (ps : List Position) (k : ℕ) (d p : Position) (many : ℕ) → k < length ps → p ≡ get_or ps (k + 1 - 1) d
-    → ((extra share time : ℕ) → p ≡ at.Task extra share time → ⊥) → many ≡ sum_by added_tasks (take k ps) → many ≡ sum_by added_tasks (take (k + 1) ps)
+    → ((extra share time : ℕ) → p ≡ at.Task extra share time → ⊥)
+    → many ≡ sum_by added_tasks (take k ps) → many ≡ sum_by added_tasks (take (k + 1) ps)
 no_more ps k d p many lt is other e = omega (arith, more ps k d p many lt is e, none p other)
   where
     none : (p : Position) → ((extra share time : ℕ) → p ≡ at.Task extra share time → ⊥) → added_tasks p ≡ 0
@@ -51,6 +54,7 @@ no_more ps k d p many lt is other e = omega (arith, more ps k d p many lt is e, 
     none (Par parts) other = refl
 
 -- the count of the tasks of a term
-pub tasks_counted : ((ps : List Position) → IsTerms ps → Denotes ps (term_of ps)) → ((ps : List Position) (t : Term) → Denotes ps t → ps ≡ postfix t)
+pub tasks_counted : ((ps : List Position) → IsTerms ps → Denotes ps (term_of ps))
+    → ((ps : List Position) (t : Term) → Denotes ps t → ps ≡ postfix t)
     → (ps : List Position) → IsTerms ps → sum_by added_tasks ps ≡ length (tasks_of_term (term_of ps))
 tasks_counted denotes only ps terms = ap (sum_by added_tasks) (only ps (term_of ps) (denotes ps terms)) ∙ of_term (term_of ps)

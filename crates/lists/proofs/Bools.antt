@@ -1,5 +1,6 @@
 -- Truth values, and tests of numbers.
-use Rattle.std.proofs.Common.{Bool, true, false, not, ◌||◌, ◌&&◌, ◌==◌, ◌≡◌, ◌≤◌, ◌⊎◌, ℕ, cond, eqb, inl, inr, refl, sym, ◌∙◌, arith, eq-eqb}
+use Rattle.std.proofs.Common.{Bool, true, false, not, ◌||◌, ◌&&◌, ◌==◌, ◌≡◌, ◌≤◌, ◌⊎◌}
+use Rattle.std.proofs.Common.{ℕ, cond, eqb, inl, inr, refl, sym, ◌∙◌, arith, eq-eqb}
 use Rattle.std.proofs.lemmas.Bool.{ne_eqb, cases_eq, not_from_false, eqb-false, not-true}
 
 -- ---- truth values

@@ -1,5 +1,6 @@
 -- Lists, sums over them, and ranges of numbers.
-use Rattle.std.proofs.Common.{◌≡◌, ◌≢◌, ◌<◌, ◌+◌, ◌++◌, ◌∷◌, ◌∙◌, ◌⊎◌, ℕ, zero, suc, List, [], length, take, map, set, slice_index, ap, refl, inl, inr, arith, get_or-set_other, get_or-set_same}
+use Rattle.std.proofs.Common.{◌≡◌, ◌≢◌, ◌<◌, ◌+◌, ◌++◌, ◌∷◌, ◌∙◌, ◌⊎◌, ℕ, zero, suc, List, [], length, take, map}
+use Rattle.std.proofs.Common.{set, slice_index, ap, refl, inl, inr, arith, get_or-set_other, get_or-set_same}
 use Rattle.std.specs.List.Sorted.{IsStrictlyIncreasing}
 use Rattle.std.specs.List.{range_with_len, sum_by}
 use Rattle.std.proofs.Math.Seq.{take-append_seam}
@@ -10,14 +11,16 @@ pub append_nil : (xs : List ℕ) → xs ++ [] ≡ xs
 append_nil [] = refl
 append_nil (x ∷ xs) = ap (λ v. x ∷ v) (append_nil xs)
 
-pub ends : {X : Type 0} (n : ℕ) (xs : List X) → length xs ≡ n + 1 → (front : List X) × (last : X) × ((xs ≡ front ++ last ∷ []) × (length front ≡ n))
+pub ends : {X : Type 0} (n : ℕ) (xs : List X) → length xs ≡ n + 1
+    → (front : List X) × (last : X) × ((xs ≡ front ++ last ∷ []) × (length front ≡ n))
 ends n [] e = absurd (omega arith)
 ends n (x ∷ []) e = ([], x, (refl, omega arith))
 ends n (x ∷ y ∷ ys) e =
     let rest = ends (length ys) (y ∷ ys) (omega arith) in
     (x ∷ rest.0, rest.1, (ap (λ zs. x ∷ zs) rest.2.0, omega (arith, rest.2.1)))
 
-pub within : {X : Type 0} (xs : List X) (x : X) (before : List X) (y : X) (after : List X) → xs ++ x ∷ [] ≡ before ++ y ∷ after → ((before ≡ xs) × (y ≡ x)) ⊎ ((rest : List X) × (xs ≡ before ++ y ∷ rest))
+pub within : {X : Type 0} (xs : List X) (x : X) (before : List X) (y : X) (after : List X)
+    → xs ++ x ∷ [] ≡ before ++ y ∷ after → ((before ≡ xs) × (y ≡ x)) ⊎ ((rest : List X) × (xs ≡ before ++ y ∷ rest))
 within [] x [] y after e = inl (refl, cc)
 within [] x (b ∷ []) y after e = cc
 within [] x (b ∷ c ∷ before) y after e = cc

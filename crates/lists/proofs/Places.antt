@@ -8,7 +8,8 @@ abbrev pub IsEither : ℕ → (ℕ → Type 0) → Type 0
 IsEither count fact = Each count (λ place. fact place ⊎ (fact place → ⊥))
 
 -- it holds at each place, or there is a first at which it does not
-pub first_without : (count : ℕ) (fact : ℕ → Type 0) → IsEither count fact → Each count fact ⊎ ((place : ℕ) × IsFirstWithout count fact place)
+pub first_without : (count : ℕ) (fact : ℕ → Type 0) → IsEither count fact
+    → Each count fact ⊎ ((place : ℕ) × IsFirstWithout count fact place)
 first_without zero fact either = inl (λ v place. absurd (omega (arith, place.0, place.1)))
 first_without (suc n) fact either =
     elim (first_without n fact (λ v place. either v (place.0, omega (arith, place.1)))) [

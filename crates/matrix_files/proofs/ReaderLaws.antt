@@ -6,8 +6,10 @@ use Rattle.mp_text.specs.Text.{Row}
 use Rattle.mp_text.specs.Grammar.{Test, test, ArePassed, fault_at}
 use Rattle.mp_text.specs.Reading.{Follows, tested}
 use Rattle.mp_text.specs.ReadingLaws.{tested-follows}
-use Rattle.matrix_files.specs.MatrixFile.{matrix_format, matrix_line_tests, matrix_end_tests, banner_tests, values_stated, size_tests, size_of, entry_tests, pair_of}
-use Rattle.matrix_files.specs.Reader.{MatrixState, TookBanner, TookEntries, staged_step, staged_end, staged_took, matrix_step, matrix_end, took}
+use Rattle.matrix_files.specs.MatrixFile.{matrix_format, matrix_line_tests, matrix_end_tests, banner_tests}
+use Rattle.matrix_files.specs.MatrixFile.{values_stated, size_tests, size_of, entry_tests, pair_of}
+use Rattle.matrix_files.specs.Reader.{MatrixState, TookBanner, TookEntries, staged_step, staged_end}
+use Rattle.matrix_files.specs.Reader.{staged_took, matrix_step, matrix_end, took}
 use Rattle.matrix_files.specs.declared.kind.MatrixKind.{MatrixKind}
 use Rattle.matrix_files.specs.declared.kind.MatrixKind.TheVariants as kinds
 use Rattle.matrix_files.specs.declared.stage.Stage.{Stage}
@@ -25,7 +27,16 @@ at_size : (s : MatrixState) (rows : List Row) (row : Row) → (t : TookBanner s 
     → Follows (size_tests row) (IsNext (t.banner ∷ row ∷ [])) (staged_step stages.Size s row)
 unfolding IsNext
 at_size s rows row t = tested-follows (size_tests row) _ _ (λ _. (
-  record { banner = t.banner; size = row; entry_rows = []; rows_are = refl; values = t.values; order = refl; entries = refl; pairs = t.pairs },
+  record {
+    banner = t.banner;
+    size = row;
+    entry_rows = [];
+    rows_are = refl;
+    values = t.values;
+    order = refl;
+    entries = refl;
+    pairs = t.pairs;
+  },
   refl,
 ))
 

@@ -10,7 +10,8 @@ use Rattle.matrix_files.specs.declared.stage.Stage.{Stage}
 use Rattle.matrix_files.specs.declared.stage.Stage.TheVariants as stages
 use Rattle.matrix_files.proofs.FileLemmas.{well_formed_within}
 
-staged_stated : (bytes : List ℕ) (stage : Stage) (s : MatrixState) → IsWellFormed matrix_format (rows_of_bytes Banner bytes) (past_of_bytes bytes)
+staged_stated : (bytes : List ℕ) (stage : Stage) (s : MatrixState)
+    → IsWellFormed matrix_format (rows_of_bytes Banner bytes) (past_of_bytes bytes)
     → staged_took stage s (rows_of_bytes Banner bytes) → AreStated bytes s.order s.pairs
 staged_stated bytes stages.Banner s form t = let e = rw t.0 at form.end in absurd cc
 staged_stated bytes stages.Size s form t = let e = rw t.rows_are at form.end in absurd cc

@@ -1,6 +1,7 @@
 -- What a builder has room for, one position further: so none of a random workflow is refused, and one term is left at the end,
 -- within the limits.
-use Rattle.std.proofs.Common.{◌≡◌, ℕ, zero, suc, ◌+◌, ◌-◌, ◌*◌, ◌≤◌, Bool, true, false, cond, Option, Some, None, lit<, List, [], ◌∷◌, ◌++◌, length, refl, sym, ap, subst, ◌∙◌, arith, length-append}
+use Rattle.std.proofs.Common.{◌≡◌, ℕ, zero, suc, ◌+◌, ◌-◌, ◌*◌, ◌≤◌, Bool, true, false, cond, Option, Some, None}
+use Rattle.std.proofs.Common.{lit<, List, [], ◌∷◌, ◌++◌, length, refl, sym, ap, subst, ◌∙◌, arith, length-append}
 use Rattle.std.specs.Prelude.{◌==◌, ◌&&◌, nat_le, option_and_then}
 use Rattle.std.proofs.lemmas.Bool.{leb-true, leb-false}
 use Rattle.std.proofs.lemmas.List.Elements.{All-push}
@@ -159,7 +160,8 @@ pub record StandsWith (ps : List Position) (a t s least : ℕ) : Type 0 where
   pub room : HasRoomFor ps a t s
   pub some : least ≤ height_of ps
 
-pub data-room : (ps : List Position) (dice : Lcg) (a t s : ℕ) → HasRoomFor ps (2 + a) t (s + 2000) → StandsWith (with_data ps dice).0 a t s 2
+pub data-room : (ps : List Position) (dice : Lcg) (a t s : ℕ)
+    → HasRoomFor ps (2 + a) t (s + 2000) → StandsWith (with_data ps dice).0 a t s 2
 unfolding with_data
 data-room ps dice a t s room = go (nat_le 2 (height_of ps)) ((draw 2 dice).0 == 0) refl
   where
@@ -204,7 +206,8 @@ par-room ps dice a t s room one = go (nat_le 2 (height_of ps)) ((draw 3 dice).0 
     go true false e = same
     go false third e = same
 
-one-room : (ps : List Position) (dice : Lcg) (a t s : ℕ) → HasRoomFor ps (4 + a) (suc t) (s + 3000) → StandsWith (with_one ps dice).0 a t s 1
+one-room : (ps : List Position) (dice : Lcg) (a t s : ℕ)
+    → HasRoomFor ps (4 + a) (suc t) (s + 3000) → StandsWith (with_one ps dice).0 a t s 1
 unfolding with_one
 one-room ps dice a t s room =
     let (ready, after_data) = with_data ps dice in

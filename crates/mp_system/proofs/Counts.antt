@@ -1,5 +1,6 @@
 -- How often each task stands in a list: all of 1 to n together stand as often as the list is long.
-use Rattle.std.proofs.Common.{◌≡◌, ℕ, zero, suc, ◌+◌, ◌<◌, ◌≤◌, true, false, cond, eqb, eq-eqb, List, [], ◌∷◌, length, refl, arith, inl, inr}
+use Rattle.std.proofs.Common.{◌≡◌, ℕ, zero, suc, ◌+◌, ◌<◌, ◌≤◌, true, false, cond, eqb}
+use Rattle.std.proofs.Common.{eq-eqb, List, [], ◌∷◌, length, refl, arith, inl, inr}
 use Rattle.std.specs.Prelude.{All}
 use Rattle.std.specs.List.{count_by, list_any}
 use Rattle.std.proofs.lemmas.List.Elements.{All-head, All-tail}
@@ -17,14 +18,17 @@ pub counted : (xs : List ℕ) (v : ℕ) → list_any (λ u. eqb u v) xs ≡ true
 counted [] v e = absurd cc
 counted (x ∷ xs) v e = elim (cases_eq x v) [
   | inl same ↦ (let one : ◌≡◌ {A = ℕ} (cond (eqb x v) 1 0) 1 = rw (eq-eqb x v same) in omega (arith, one, count_of-cons x xs v))
-  | inr other ↦ (let e' : list_any (λ u. eqb u v) xs ≡ true = rw (ne_eqb x v other) at e in omega (arith, count_of-cons x xs v, counted xs v e'))
+  | inr other ↦
+      (let e' : list_any (λ u. eqb u v) xs ≡ true = rw (ne_eqb x v other) at e in omega (arith, count_of-cons x xs v, counted xs v e'))
 ]
 
 pub uncounted : (xs : List ℕ) (v : ℕ) → list_any (λ u. eqb u v) xs ≡ false → count_of xs v ≡ 0
 uncounted [] v e = refl
 uncounted (x ∷ xs) v e = elim (cases_eq x v) [
   | inl same ↦ absurd (let e' : true ≡ false = rw (eq-eqb x v same) at e in cc)
-  | inr other ↦ (let e' : list_any (λ u. eqb u v) xs ≡ false = rw (ne_eqb x v other) at e in let none : ◌≡◌ {A = ℕ} (cond (eqb x v) 1 0) 0 = rw (ne_eqb x v other) in omega (arith, none, count_of-cons x xs v, uncounted xs v e'))
+  | inr other ↦
+      (let e' : list_any (λ u. eqb u v) xs ≡ false = rw (ne_eqb x v other) at e in let none : ◌≡◌ {A = ℕ} (cond (eqb x v) 1 0) 0 =
+      rw (ne_eqb x v other) in omega (arith, none, count_of-cons x xs v, uncounted xs v e'))
 ]
 
 -- ---- sums over 1 to n
@@ -41,14 +45,19 @@ total-sum f g h each (suc n) = omega (arith, each (suc n), total-sum f g h each 
 total-past : (x n : ℕ) → n < x → total (λ v. cond (eqb x v) 1 0) n ≡ 0
 unfolding total
 total-past x zero lt = refl
-total-past x (suc n) lt = (let none : ◌≡◌ {A = ℕ} (cond (eqb x (suc n)) 1 0) 0 = rw (ne_eqb x (suc n) (λ e. omega arith)) in omega (arith, none, total-past x n (omega arith)))
+total-past x (suc n) lt =
+    (let none : ◌≡◌ {A = ℕ} (cond (eqb x (suc n)) 1 0) 0 = rw (ne_eqb x (suc n) (λ e. omega arith)) in
+    omega (arith, none, total-past x n (omega arith)))
 
 total-one : (x n : ℕ) → 1 ≤ x → x ≤ n → total (λ v. cond (eqb x v) 1 0) n ≡ 1
 unfolding total
 total-one x zero low high = absurd (omega arith)
 total-one x (suc n) low high = elim (cases_eq x (suc n)) [
-  | inl same ↦ (let one : ◌≡◌ {A = ℕ} (cond (eqb x (suc n)) 1 0) 1 = rw (eq-eqb x (suc n) same) in omega (arith, one, total-past x n (omega arith)))
-  | inr other ↦ (let none : ◌≡◌ {A = ℕ} (cond (eqb x (suc n)) 1 0) 0 = rw (ne_eqb x (suc n) other) in omega (arith, none, total-one x n low (omega arith)))
+  | inl same ↦
+      (let one : ◌≡◌ {A = ℕ} (cond (eqb x (suc n)) 1 0) 1 = rw (eq-eqb x (suc n) same) in omega (arith, one, total-past x n (omega arith)))
+  | inr other ↦
+      (let none : ◌≡◌ {A = ℕ} (cond (eqb x (suc n)) 1 0) 0 = rw (ne_eqb x (suc n) other) in
+      omega (arith, none, total-one x n low (omega arith)))
 ]
 
 total-none : (n : ℕ) → total (λ v. count_of [] v) n ≡ 0
@@ -62,7 +71,12 @@ total-length n [] within = total-none n
 total-length n (x ∷ xs) within =
     let range = All-head (λ x. (1 ≤ x) × (x ≤ n)) x xs within in
     let rest = total-length n xs (All-tail (λ x. (1 ≤ x) × (x ≤ n)) x xs within) in
-    omega (arith, total-sum (λ v. cond (eqb x v) 1 0) (count_of xs) (count_of (x ∷ xs)) (count_of-cons x xs) n, total-one x n range.0 range.1, rest)
+    omega (
+      arith,
+      total-sum (λ v. cond (eqb x v) 1 0) (count_of xs) (count_of (x ∷ xs)) (count_of-cons x xs) n,
+      total-one x n range.0 range.1,
+      rest,
+    )
 
 total-le : (f : ℕ → ℕ) → ((v : ℕ) → f v ≤ 1) → (n : ℕ) → total f n ≤ n
 unfolding total

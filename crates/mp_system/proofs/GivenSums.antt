@@ -1,5 +1,6 @@
 -- What a task consumes and produces, as sums over the items that were given.
-use Rattle.std.proofs.Common.{◌≡◌, ◌≢◌, ℕ, zero, suc, ◌+◌, ◌-◌, ◌<◌, ◌≤◌, cond, true, false, List, length, take, get_or, refl, ap, ◌∙◌, arith}
+use Rattle.std.proofs.Common.{◌≡◌, ◌≢◌, ℕ, zero, suc, ◌+◌, ◌-◌, ◌<◌, ◌≤◌, cond, true, false}
+use Rattle.std.proofs.Common.{List, length, take, get_or, refl, ap, ◌∙◌, arith}
 use Rattle.std.specs.Prelude.{◌==◌, Some}
 use Rattle.std.specs.List.{sum_by}
 use Rattle.std.proofs.lemmas.List.{take_all}
@@ -31,26 +32,30 @@ producer item = item.from
 input_is : (v : ℕ) → 1 ≤ v → (item : GivenItem) → size_if (is_input v) (item_given item) ≡ size_at consumer v item
 input_is v some item = go item.to
   where
-    go : (to : ℕ) → size_if (is_input v) (record { size = item.size; from = end_given item.from; to = end_given to }) ≡ cond (to == v) item.size 0
+    go : (to : ℕ)
+        → size_if (is_input v) (record { size = item.size; from = end_given item.from; to = end_given to }) ≡ cond (to == v) item.size 0
     go zero = rw (ne_eqb 0 v (omega (arith, some))) refl
     go (suc to) = rw (end-some (suc to) (omega arith)) refl
 
 output_is : (v : ℕ) → 1 ≤ v → (item : GivenItem) → size_if (is_output v) (item_given item) ≡ size_at producer v item
 output_is v some item = go item.from
   where
-    go : (from : ℕ) → size_if (is_output v) (record { size = item.size; from = end_given from; to = end_given item.to }) ≡ cond (from == v) item.size 0
+    go : (from : ℕ)
+        → size_if (is_output v) (record { size = item.size; from = end_given from; to = end_given item.to }) ≡ cond (from == v) item.size 0
     go zero = rw (ne_eqb 0 v (omega (arith, some))) refl
     go (suc from) = rw (end-some (suc from) (omega arith)) refl
 
 pub inputs-are : (tasks : List GivenTask) (items : List GivenItem) (v : ℕ) → 1 ≤ v
     → inputs_of (system_given tasks items) v ≡ sum_by (size_at consumer v) items
 inputs-are tasks items v some =
-    sum_by-map (size_if (is_input v)) item_given items ∙ sum-same (λ x. size_if (is_input v) (item_given x)) (size_at consumer v) (input_is v some) items
+    sum_by-map (size_if (is_input v)) item_given items
+    ∙ sum-same (λ x. size_if (is_input v) (item_given x)) (size_at consumer v) (input_is v some) items
 
 pub outputs-are : (tasks : List GivenTask) (items : List GivenItem) (v : ℕ) → 1 ≤ v
     → outputs_of (system_given tasks items) v ≡ sum_by (size_at producer v) items
 outputs-are tasks items v some =
-    sum_by-map (size_if (is_output v)) item_given items ∙ sum-same (λ x. size_if (is_output v) (item_given x)) (size_at producer v) (output_is v some) items
+    sum_by-map (size_if (is_output v)) item_given items
+    ∙ sum-same (λ x. size_if (is_output v) (item_given x)) (size_at producer v) (output_is v some) items
 
 at_most : (end : GivenItem → ℕ) (v : ℕ) (item : GivenItem) → size_at end v item ≤ item.size
 at_most end v item = elim (end item == v) as (λ b. cond b item.size 0 ≤ item.size) [ true ↦ omega arith | false ↦ omega arith ]

@@ -1,5 +1,6 @@
 -- The items that a task consumes, by the places that its row has.
-use Rattle.std.proofs.Common.{◌≡◌, ℕ, suc, ◌+◌, ◌<◌, ◌≤◌, Bool, true, false, not, ◌&&◌, ◌||◌, eqb, List, [], ◌∷◌, map, length, get_or, Option, Some, None, refl, sym, ap, ◌∙◌, arith, inl, inr}
+use Rattle.std.proofs.Common.{◌≡◌, ℕ, suc, ◌+◌, ◌<◌, ◌≤◌, Bool, true, false, not, ◌&&◌, ◌||◌, eqb, List, [], ◌∷◌}
+use Rattle.std.proofs.Common.{map, length, get_or, Option, Some, None, refl, sym, ap, ◌∙◌, arith, inl, inr}
 use Rattle.std.specs.Prelude.{All, unwrap_or}
 use Rattle.std.specs.Option.{ForSome}
 use Rattle.std.specs.List.{sum_by, filter, list_all}
@@ -20,11 +21,17 @@ use Rattle.mp_system.proofs.Sums.{sum_by_mapped, size_where-le}
 sum_by-filter : (test : Item → Bool) (items : List Item) → sum_by item_size (filter test items) ≡ size_where test items
 sum_by-filter test [] = refl
 sum_by-filter test (x ∷ xs) = elim (cases_Bool (test x)) [
-  | inl passes ↦ (let left : sum_by item_size (filter test (x ∷ xs)) ≡ sum_by item_size (x ∷ filter test xs) = rw passes in let one : size_if test x ≡ x.size = rw passes in omega (arith, left, one, sum_by-cons item_size x (filter test xs), sum_by-cons (size_if test) x xs, sum_by-filter test xs))
-  | inr fails ↦ (let left : sum_by item_size (filter test (x ∷ xs)) ≡ sum_by item_size (filter test xs) = rw fails in let none : size_if test x ≡ 0 = rw fails in omega (arith, left, none, sum_by-cons (size_if test) x xs, sum_by-filter test xs))
+  | inl passes ↦
+      (let left : sum_by item_size (filter test (x ∷ xs)) ≡ sum_by item_size (x ∷ filter test xs) = rw passes in
+      let one : size_if test x ≡ x.size = rw passes in
+      omega (arith, left, one, sum_by-cons item_size x (filter test xs), sum_by-cons (size_if test) x xs, sum_by-filter test xs))
+  | inr fails ↦
+      (let left : sum_by item_size (filter test (x ∷ xs)) ≡ sum_by item_size (filter test xs) = rw fails in
+      let none : size_if test x ≡ 0 = rw fails in omega (arith, left, none, sum_by-cons (size_if test) x xs, sum_by-filter test xs))
 ]
 
-list_all-filter : (holds test : Item → Bool) (items : List Item) → list_all holds (filter test items) ≡ list_all (λ item. not (test item) || holds item) items
+list_all-filter : (holds test : Item → Bool) (items : List Item)
+    → list_all holds (filter test items) ≡ list_all (λ item. not (test item) || holds item) items
 list_all-filter holds test [] = refl
 list_all-filter holds test (x ∷ xs) = elim (cases_Bool (test x)) [
   | inl passes ↦ rw passes (ap (λ (b : Bool). holds x && b) (list_all-filter holds test xs))
@@ -53,23 +60,27 @@ consumer_within n (Some v) within = let low = within v refl in omega (arith, low
 pub consumers-within : (system : TaskSystem) → IsSystem system → All (λ key. key < length system.tasks + 1) (map consumer_of system.items)
 consumers-within system within =
     All-map (λ key. key < length system.tasks + 1) consumer_of system.items
-    (All-weaker (IsItemWithin system) (λ item. consumer_of item < length system.tasks + 1) (λ item has. consumer_within (length system.tasks) item.to has.consumer) system.items within.items)
+    (All-weaker (IsItemWithin system) (λ item. consumer_of item < length system.tasks + 1)
+    (λ item has. consumer_within (length system.tasks) item.to has.consumer) system.items within.items)
 
 -- from the item at `first` on
 items-numbers : (items rest : List Item) (first v : ℕ) → 1 ≤ v → ((i : ℕ) → i < length rest → item_at items (first + i) ≡ item_at rest i)
     → map (item_at items) (numbers_with (map consumer_of rest) first v) ≡ filter (is_input v) rest
 items-numbers items [] first v low same = refl
 items-numbers items (item ∷ rest) first v low same =
-    let here : item_at items first ≡ item = (let none : first ≡ first + 0 = omega arith in ap (item_at items) none ∙ same 0 (omega arith)) in
+    let here : item_at items first ≡ item =
+    (let none : first ≡ first + 0 = omega arith in ap (item_at items) none ∙ same 0 (omega arith)) in
     let later : map (item_at items) (numbers_with (map consumer_of rest) (first + 1) v) ≡ filter (is_input v) rest =
-    items-numbers items rest (first + 1) v low (λ i lt. let next : first + 1 + i ≡ first + suc i = omega arith in ap (item_at items) next ∙ same (suc i) (omega arith)) in
+    items-numbers items rest (first + 1) v low
+    (λ i lt. let next : first + 1 + i ≡ first + suc i = omega arith in ap (item_at items) next ∙ same (suc i) (omega arith)) in
     elim (cases_Bool (is_input v item)) [
       | inl passes ↦ (let has : eqb (consumer_of item) v ≡ true = named item.to v low ∙ passes in rw (has, passes, here, later))
       | inr fails ↦ (let other : eqb (consumer_of item) v ≡ false = named item.to v low ∙ fails in rw (other, fails) later)
     ]
 
 -- a task's row
-module _ (system : TaskSystem) (items : List Item) (same : items ≡ system.items) (v : ℕ) (low : 1 ≤ v) (row : List ℕ) (row_is : row ≡ numbers_with (map consumer_of system.items) 0 v) where
+module _ (system : TaskSystem) (items : List Item) (same : items ≡ system.items) (v : ℕ)
+    (low : 1 ≤ v) (row : List ℕ) (row_is : row ≡ numbers_with (map consumer_of system.items) 0 v) where
   inputs_are : map (item_at items) row ≡ filter (is_input v) items
   inputs_are =
       ap (map (item_at items)) (row_is ∙ ap (λ (l : List Item). numbers_with (map consumer_of l) 0 v) (sym same))

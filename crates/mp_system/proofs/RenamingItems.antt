@@ -1,5 +1,6 @@
 -- Sums and tests over the items of two systems that are the same up to names.
-use Rattle.std.proofs.Common.{◌≡◌, ℕ, Bool, true, false, cond, not, eqb, List, [], ◌∷◌, map, Option, Some, None, refl, sym, ap, ◌∙◌, arith, inl, inr}
+use Rattle.std.proofs.Common.{◌≡◌, ℕ, Bool, true, false, cond, not, eqb, List, [], ◌∷◌, map}
+use Rattle.std.proofs.Common.{Option, Some, None, refl, sym, ap, ◌∙◌, arith, inl, inr}
 use Rattle.std.proofs.Math.Path.{fun_ext}
 use Rattle.std.specs.Prelude.{IsPermutation}
 use Rattle.std.specs.List.{sum_by, list_all, list_any, filter}
@@ -26,7 +27,8 @@ module _ {X : Type 0} (p : X → Bool) where
   ]
 
   -- elements that pass may be left out of a test of all
-  list_all_kept : (test : X → Bool) → ((x : X) → p x ≡ false → test x ≡ true) → (xs : List X) → list_all test (filter p xs) ≡ list_all test xs
+  list_all_kept : (test : X → Bool) → ((x : X) → p x ≡ false → test x ≡ true)
+      → (xs : List X) → list_all test (filter p xs) ≡ list_all test xs
   list_all_kept test pass [] = refl
   list_all_kept test pass (x ∷ xs) = elim (cases_Bool (p x)) [
     | inl kept ↦ rw (kept, list_all_kept test pass xs)
@@ -41,7 +43,8 @@ module _ {X : Type 0} (p : X → Bool) where
   ]
 
   list_all-IsPermutation : (xs ys : List X) → IsPermutation xs ys → list_all p ys ≡ list_all p xs
-  list_all-IsPermutation xs ys moved = list_all-list_any ys ∙ ap not (sym (list_any-IsPermutation (λ x. not (p x)) xs ys moved)) ∙ sym (list_all-list_any xs)
+  list_all-IsPermutation xs ys moved =
+      list_all-list_any ys ∙ ap not (sym (list_any-IsPermutation (λ x. not (p x)) xs ys moved)) ∙ sym (list_all-list_any xs)
 
 -- ---- items of size 0 that no task produces
 
@@ -62,15 +65,19 @@ no_wait done v item light =
 
 -- ---- all items
 
-module _ (name : ℕ → ℕ) (own named : List Item) (moved : IsPermutation (map (renamed name) (filter is_solid own)) (filter is_solid named)) where
-  pub size_where_same : (test other : Item → Bool) → ((item : Item) → other (renamed name item) ≡ test item) → size_where other named ≡ size_where test own
+module _ (name : ℕ → ℕ) (own named : List Item)
+    (moved : IsPermutation (map (renamed name) (filter is_solid own)) (filter is_solid named)) where
+  pub size_where_same : (test other : Item → Bool)
+      → ((item : Item) → other (renamed name item) ≡ test item) → size_where other named ≡ size_where test own
   size_where_same test other each =
       sym (sum_by_kept is_solid (size_if other) (no_size_if other) named)
       ∙ sum_by-IsPermutation (size_if other) (map (renamed name) (filter is_solid own)) (filter is_solid named) moved
-      ∙ sum_by_mapped (renamed name) (size_if other) (size_if test) (λ item. ap (λ (b : Bool). cond b item.size 0) (each item)) (filter is_solid own)
+      ∙ sum_by_mapped (renamed name) (size_if other) (size_if test)
+      (λ item. ap (λ (b : Bool). cond b item.size 0) (each item)) (filter is_solid own)
       ∙ sum_by_kept is_solid (size_if test) (no_size_if test) own
 
-  pub supplied_same : (done later : ℕ → Bool) (v u : ℕ) → ((item : Item) → is_supplied later u (renamed name item) ≡ is_supplied done v item)
+  pub supplied_same : (done later : ℕ → Bool) (v u : ℕ)
+      → ((item : Item) → is_supplied later u (renamed name item) ≡ is_supplied done v item)
       → list_all (is_supplied later u) named ≡ list_all (is_supplied done v) own
   supplied_same done later v u each =
       sym (list_all_kept is_solid (is_supplied later u) (no_wait later u) named)

@@ -1,5 +1,6 @@
 -- The names of one system's tasks are the tasks of the other, each once.
-use Rattle.std.proofs.Common.{◌≡◌, ℕ, zero, suc, ◌+◌, ◌-◌, ◌<◌, ◌≤◌, cond, eqb, eq-eqb, List, [], ◌∷◌, length, get_or, refl, sym, ap, subst, ◌∙◌, arith, inl, inr}
+use Rattle.std.proofs.Common.{◌≡◌, ℕ, zero, suc, ◌+◌, ◌-◌, ◌<◌, ◌≤◌, cond, eqb, eq-eqb, List, []}
+use Rattle.std.proofs.Common.{◌∷◌, length, get_or, refl, sym, ap, subst, ◌∙◌, arith, inl, inr}
 use Rattle.std.proofs.Math.ListN.{get_or-eq_default}
 use Rattle.std.proofs.lemmas.List.{get_or-map, length-map}
 use Rattle.std.proofs.lemmas.List.Elements.{All-get_or}
@@ -60,7 +61,8 @@ module _ (names : List ℕ) (own named : TaskSystem) (same : IsRenamed names own
 
   -- a task's name is a task
   pub task_name : (k : ℕ) → IsTask own k → IsTask named (name_in names k)
-  task_name k task = subst (IsTask named) (sym (name_at names k task.0)) (All-get_or (IsTask named) names (k - 1) 0 (omega (arith, own_length)) same.within)
+  task_name k task = subst (IsTask named) (sym (name_at names k task.0))
+      (All-get_or (IsTask named) names (k - 1) 0 (omega (arith, own_length)) same.within)
 
   -- and nothing else has a task's name
   pub name_task : (k : ℕ) → IsTask named (name_in names k) → IsTask own k
@@ -76,7 +78,8 @@ module _ (names : List ℕ) (own named : TaskSystem) (same : IsRenamed names own
   pub name_once : (u v : ℕ) → IsTask own v → name_in names u ≡ name_in names v → u ≡ v
   name_once u v task e =
       let task_u : IsTask own u = name_task u (subst (IsTask named) (sym e) (task_name v task)) in
-      let places = same_place names (name_in names v) (u - 1) (v - 1) (omega (arith, same.once (name_in names v) (task_name v task))) (omega (arith, own_length)) (omega (arith, own_length))
+      let places = same_place names (name_in names v) (u - 1) (v - 1)
+      (omega (arith, same.once (name_in names v) (task_name v task))) (omega (arith, own_length)) (omega (arith, own_length))
       (sym (name_at names u task_u.0) ∙ e) (sym (name_at names v task.0)) in
       omega (arith, places, task.0, task_u.0)
 

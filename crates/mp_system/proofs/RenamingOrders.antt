@@ -1,5 +1,6 @@
 -- Traversals of two systems that are the same up to names, and their peaks.
-use Rattle.std.proofs.Common.{◌≡◌, ℕ, Bool, true, false, cond, List, [], ◌∷◌, ◌++◌, map, Option, Some, None, refl, sym, ap, subst, ◌∙◌, arith}
+use Rattle.std.proofs.Common.{◌≡◌, ℕ, Bool, true, false, cond, List, [], ◌∷◌, ◌++◌, map}
+use Rattle.std.proofs.Common.{Option, Some, None, refl, sym, ap, subst, ◌∙◌, arith}
 use Rattle.std.specs.Prelude.{All, option_map}
 use Rattle.std.proofs.lemmas.List.{map-append}
 use Rattle.std.proofs.lemmas.List.Elements.{All-nil, All-cons, All-head, All-tail}
@@ -54,7 +55,8 @@ module _ (names : List ℕ) (own named : TaskSystem) (same : IsRenamed names own
 
   -- the same tasks are done
   module _ (done later : ℕ → Bool) (agree : (u : ℕ) → later (name_in names u) ≡ done u) where
-    done_same : (otherwise : Bool) (who : Option ℕ) → is_done_or otherwise later (option_map (name_in names) who) ≡ is_done_or otherwise done who
+    done_same : (otherwise : Bool) (who : Option ℕ)
+        → is_done_or otherwise later (option_map (name_in names) who) ≡ is_done_or otherwise done who
     done_same otherwise None = refl
     done_same otherwise (Some u) = agree u
 
@@ -72,7 +74,8 @@ module _ (names : List ℕ) (own named : TaskSystem) (same : IsRenamed names own
           (λ item. rw (named_same item.to, done_same true item.from))
 
       outputs_same : outputs_of named (name_in names v) ≡ outputs_of own v
-      outputs_same = size_where_same (name_in names) own.items named.items same.items (is_output v) (is_output (name_in names v)) (λ item. named_same item.from)
+      outputs_same = size_where_same (name_in names) own.items named.items same.items
+          (is_output v) (is_output (name_in names v)) (λ item. named_same item.from)
 
       running_same : running_memory named later (name_in names v) ≡ running_memory own done v
       running_same =
@@ -82,21 +85,33 @@ module _ (names : List ℕ) (own named : TaskSystem) (same : IsRenamed names own
 
   -- ---- the state after some tasks
 
-  stands_same : (before : List ℕ) → All (IsTask own) before → (u : ℕ) → stands_in (map (name_in names) before) (name_in names u) ≡ stands_in before u
+  stands_same : (before : List ℕ) → All (IsTask own) before → (u : ℕ)
+      → stands_in (map (name_in names) before) (name_in names u) ≡ stands_in before u
   stands_same [] tasks u = refl
   stands_same (x ∷ before) tasks u =
       let task = All-head (IsTask own) x before tasks in
-      rw (same_eqb names x u (λ e. sym (name_once names own named same u x task (sym e))), stands_same before (All-tail (IsTask own) x before tasks) u)
+      rw (
+        same_eqb names x u (λ e. sym (name_once names own named same u x task (sym e))),
+        stands_same before (All-tail (IsTask own) x before tasks) u,
+      )
 
-  peak_from_same : (before rest : List ℕ) → All (IsTask own) before → All (IsTask own) rest → peak_from named (map (name_in names) before) (map (name_in names) rest) ≡ peak_from own before rest
-  peak_from_same before [] done_tasks tasks = state_same (stands_in before) (stands_in (map (name_in names) before)) (stands_same before done_tasks)
+  peak_from_same : (before rest : List ℕ) → All (IsTask own) before → All (IsTask own) rest
+      → peak_from named (map (name_in names) before) (map (name_in names) rest) ≡ peak_from own before rest
+  peak_from_same before [] done_tasks tasks =
+      state_same (stands_in before) (stands_in (map (name_in names) before)) (stands_same before done_tasks)
   peak_from_same before (v ∷ rest) done_tasks tasks =
       let task = All-head (IsTask own) v rest tasks in
       let agree = stands_same before done_tasks in
-      let later : peak_from named (map (name_in names) before ++ name_in names v ∷ []) (map (name_in names) rest) ≡ peak_from own (before ++ v ∷ []) rest =
+      let later : peak_from named (map (name_in names) before ++ name_in names v ∷ []) (map (name_in names) rest)
+      ≡ peak_from own (before ++ v ∷ []) rest =
       ap (λ (l : List ℕ). peak_from named l (map (name_in names) rest)) (sym (map-append (name_in names) before (v ∷ [])))
       ∙ peak_from_same (before ++ v ∷ []) rest (All-push (IsTask own) before v done_tasks task) (All-tail (IsTask own) v rest tasks) in
-      omega (arith, state_same (stands_in before) (stands_in (map (name_in names) before)) agree, running_same (stands_in before) (stands_in (map (name_in names) before)) agree v task, later)
+      omega (
+        arith,
+        state_same (stands_in before) (stands_in (map (name_in names) before)) agree,
+        running_same (stands_in before) (stands_in (map (name_in names) before)) agree v task,
+        later,
+      )
 
   pub peak_same : (order : List ℕ) → IsTraversal own order → peak_of named (map (name_in names) order) ≡ peak_of own order
   peak_same order traversal = peak_from_same [] order (All-nil (IsTask own)) traversal.tasks
@@ -106,19 +121,28 @@ module _ (names : List ℕ) (own named : TaskSystem) (same : IsRenamed names own
   tasks_named : (order : List ℕ) → All (IsTask own) order → All (IsTask named) (map (name_in names) order)
   tasks_named [] tasks = All-nil (IsTask named)
   tasks_named (v ∷ order) tasks =
-      All-cons (IsTask named) (name_in names v) (map (name_in names) order) (task_name names own named same v (All-head (IsTask own) v order tasks)) (tasks_named order (All-tail (IsTask own) v order tasks))
+      All-cons (IsTask named) (name_in names v) (map (name_in names) order)
+      (task_name names own named same v (All-head (IsTask own) v order tasks))
+      (tasks_named order (All-tail (IsTask own) v order tasks))
 
   tasks_own : (order : List ℕ) → All (IsTask named) (map (name_in names) order) → All (IsTask own) order
   tasks_own [] tasks = All-nil (IsTask own)
   tasks_own (v ∷ order) tasks =
-      All-cons (IsTask own) v order (name_task names own named same v (All-head (IsTask named) (name_in names v) (map (name_in names) order) tasks))
+      All-cons (IsTask own) v order
+      (name_task names own named same v (All-head (IsTask named) (name_in names v) (map (name_in names) order) tasks))
       (tasks_own order (All-tail (IsTask named) (name_in names v) (map (name_in names) order) tasks))
 
   count_same : (order : List ℕ) (v : ℕ) → IsTask own v → count_of (map (name_in names) order) (name_in names v) ≡ count_of order v
   count_same [] v task = refl
   count_same (x ∷ order) v task =
       let one = ap {B = ℕ} (λ (b : Bool). cond b 1 0) (same_eqb names x v (name_once names own named same x v task)) in
-      omega (arith, one, count_of-cons (name_in names x) (map (name_in names) order) (name_in names v), count_of-cons x order v, count_same order v task)
+      omega (
+        arith,
+        one,
+        count_of-cons (name_in names x) (map (name_in names) order) (name_in names v),
+        count_of-cons x order v,
+        count_same order v task,
+      )
 
   -- what is ready after some tasks of an order of tasks
   module _ (order : List ℕ) (tasks : All (IsTask own) order) where
@@ -139,7 +163,8 @@ module _ (names : List ℕ) (own named : TaskSystem) (same : IsRenamed names own
         let at = cut (name_in names) order before v rest split in
         let ready : is_ready named (stands_in (map (name_in names) at.first)) (name_in names at.here) ≡ true =
         ready_after order traversal.tasks at.first at.here at.last at.split ∙ traversal.after_suppliers at.first at.last at.here at.split in
-        subst (λ (l : List ℕ). is_ready named (stands_in l) v ≡ true) at.first_is (subst (λ (w : ℕ). is_ready named (stands_in (map (name_in names) at.first)) w ≡ true) at.here_is ready)
+        subst (λ (l : List ℕ). is_ready named (stands_in l) v ≡ true) at.first_is
+        (subst (λ (w : ℕ). is_ready named (stands_in (map (name_in names) at.first)) w ≡ true) at.here_is ready)
         );
   }
 
@@ -151,7 +176,8 @@ module _ (names : List ℕ) (own named : TaskSystem) (same : IsRenamed names own
         tasks = tasks;
         after_suppliers = λ before rest v split.
             sym (ready_after order tasks before v rest split)
-            ∙ traversal.after_suppliers (map (name_in names) before) (map (name_in names) rest) (name_in names v) (ap (map (name_in names)) split ∙ map-append (name_in names) before (v ∷ rest));
+            ∙ traversal.after_suppliers (map (name_in names) before) (map (name_in names) rest)
+            (name_in names v) (ap (map (name_in names)) split ∙ map-append (name_in names) before (v ∷ rest));
       }
 
   -- ---- each traversal
@@ -163,7 +189,8 @@ module _ (names : List ℕ) (own named : TaskSystem) (same : IsRenamed names own
       let later = unnamed order (All-tail (IsTask named) v order tasks) in
       (there.0 ∷ later.0, rw (there.2) (ap (λ (l : List ℕ). v ∷ l) later.1))
 
-  pub each_traversal : (order : List ℕ) → IsTraversal named order → (own_order : List ℕ) × IsTraversal own own_order × (order ≡ map (name_in names) own_order)
+  pub each_traversal : (order : List ℕ) → IsTraversal named order
+      → (own_order : List ℕ) × IsTraversal own own_order × (order ≡ map (name_in names) own_order)
   each_traversal order traversal =
       let there = unnamed order traversal.tasks in
       (there.0, traversal_own there.0 (subst (IsTraversal named) there.1 traversal), there.1)
@@ -186,5 +213,6 @@ module _ (names : List ℕ) (own named : TaskSystem) (same : IsRenamed names own
         order = there.0;
         traversal = there.1;
         attained = sym (peak_same there.0 there.1) ∙ sym (ap (peak_of named) there.2) ∙ least.attained;
-        least = λ other traversal. omega (arith, least.least (map (name_in names) other) (traversal_named other traversal), peak_same other traversal);
+        least = λ other traversal.
+            omega (arith, least.least (map (name_in names) other) (traversal_named other traversal), peak_same other traversal);
       }

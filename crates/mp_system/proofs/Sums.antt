@@ -1,5 +1,6 @@
 -- The items of a system by places, and the sums of outputs kept one item at a time.
-use Rattle.std.proofs.Common.{◌≡◌, ℕ, ◌+◌, ◌-◌, ◌<◌, ◌≤◌, Bool, true, false, cond, eqb, eq-eqb, List, [], ◌∷◌, map, length, take, get_or, set, refl, sym, ap, subst, arith, Option, Some, None, inl, inr}
+use Rattle.std.proofs.Common.{◌≡◌, ℕ, ◌+◌, ◌-◌, ◌<◌, ◌≤◌, Bool, true, false, cond, eqb, eq-eqb, List, [], ◌∷◌, map}
+use Rattle.std.proofs.Common.{length, take, get_or, set, refl, sym, ap, subst, arith, Option, Some, None, inl, inr}
 use Rattle.std.specs.Prelude.{All}
 use Rattle.std.specs.List.{sum_by}
 use Rattle.std.proofs.lemmas.List.{get_or-set_same, get_or-set_other, get_or_read}
@@ -15,7 +16,8 @@ size_if-le test item = elim (test item) as (λ b. cond b item.size 0 ≤ item.si
 pub size_where-le : (test : Item → Bool) (items : List Item) → size_where test items ≤ sum_by item_size items
 size_where-le test items = sum_by-le-sum_by (size_if test) item_size items (size_if-le test)
 
-pub sum_by_mapped : {X Y : Type 0} (h : X → Y) (f : Y → ℕ) (g : X → ℕ) → ((x : X) → f (h x) ≡ g x) → (xs : List X) → sum_by f (map h xs) ≡ sum_by g xs
+pub sum_by_mapped : {X Y : Type 0} (h : X → Y) (f : Y → ℕ) (g : X → ℕ)
+    → ((x : X) → f (h x) ≡ g x) → (xs : List X) → sum_by f (map h xs) ≡ sum_by g xs
 sum_by_mapped h f g each [] = refl
 sum_by_mapped h f g each (x ∷ xs) = omega (arith, sum_by-cons f (h x) (map h xs), sum_by-cons g x xs, each x, sum_by_mapped h f g each xs)
 
@@ -36,7 +38,8 @@ AreSums sums items n i = (v : ℕ) → 1 ≤ v → v ≤ n → get_or sums (v - 
 
 module _ (sums : List ℕ) (items : List Item) (n i : ℕ) (d : Item) (lt : i < length items) (before : AreSums sums items n i) where
   -- an item with a producer
-  module _ (u old : ℕ) (len : length sums ≡ n) (from_u : (get_or items i d).from ≡ Some u) (low_u : 1 ≤ u) (high_u : u ≤ n) (read : old ≡ get_or sums (u - 1) old) where
+  module _ (u old : ℕ) (len : length sums ≡ n) (from_u : (get_or items i d).from ≡ Some u)
+      (low_u : 1 ≤ u) (high_u : u ≤ n) (read : old ≡ get_or sums (u - 1) old) where
     old_is : old ≡ get_or sums (u - 1) 0
     old_is = get_or_read sums (u - 1) old (omega arith) read 0
 
@@ -44,7 +47,8 @@ module _ (sums : List ℕ) (items : List Item) (n i : ℕ) (d : Item) (lt : i < 
     AreSums-some v low_v high_v =
         let item = get_or items i d in
         let more = sum_by_more (size_if (is_output v)) items i d lt in
-        let here : size_if (is_output v) item ≡ cond (eqb u v) item.size 0 = ap (λ (o : Option ℕ). cond (is_named o v) item.size 0) from_u in
+        let here : size_if (is_output v) item ≡ cond (eqb u v) item.size 0 =
+        ap (λ (o : Option ℕ). cond (is_named o v) item.size 0) from_u in
         elim (cases_eq u v) [
           | inl same ↦ (
               let whole : cond (eqb u v) item.size 0 ≡ item.size = rw (eq-eqb u v same) in
@@ -71,5 +75,6 @@ module _ (sums : List ℕ) (items : List Item) (n i : ℕ) (d : Item) (lt : i < 
   pub AreSums-none : (get_or items i d).from ≡ None → AreSums sums items n (i + 1)
   AreSums-none from_none v low_v high_v =
       let more = sum_by_more (size_if (is_output v)) items i d lt in
-      let here : size_if (is_output v) (get_or items i d) ≡ 0 = ap (λ (o : Option ℕ). cond (is_named o v) (get_or items i d).size 0) from_none in
+      let here : size_if (is_output v) (get_or items i d) ≡ 0 =
+      ap (λ (o : Option ℕ). cond (is_named o v) (get_or items i d).size 0) from_none in
       omega (arith, more, here, before v low_v high_v)

@@ -34,7 +34,8 @@ pub extra_fits : (tasks : List GivenTask) → Each (length tasks) (TaskPasses ta
     → i < length tasks → (get_or tasks i d).extra ≤ most_size
 extra_fits tasks each i d inside = at_place tasks no_task (λ t. t.extra ≤ most_size) i d inside each
 
-pub size_fits : (count : ℕ) (items : List GivenItem) → Each (length items) (ItemPasses count items item_tests.Size) → (i : ℕ) (d : GivenItem)
+pub size_fits : (count : ℕ) (items : List GivenItem)
+    → Each (length items) (ItemPasses count items item_tests.Size) → (i : ℕ) (d : GivenItem)
     → i < length items → (get_or items i d).size ≤ most_size
 size_fits count items each i d inside = at_place items no_item (λ t. t.size ≤ most_size) i d inside each
 
@@ -87,8 +88,10 @@ are_system tasks items plain total shares =
           (All-from_get_or (λ t. IsItemWithin (system_given tasks items) (item_given t)) items no_item (λ i inside.
           let ends = ends_fit (length tasks) items (plain.items_pass item_tests.Ends) i no_item inside in record {
             size = size_fits (length tasks) items (plain.items_pass item_tests.Size) i no_item inside;
-            producer = subst (λ (count : ℕ). ForSome (end_given (get_or items i no_item).from) (λ v. (1 ≤ v) × (v ≤ count))) (sym n) (end_within (length tasks) (get_or items i no_item).from ends.0);
-            consumer = subst (λ (count : ℕ). ForSome (end_given (get_or items i no_item).to) (λ v. (1 ≤ v) × (v ≤ count))) (sym n) (end_within (length tasks) (get_or items i no_item).to ends.1);
+            producer = subst (λ (count : ℕ). ForSome (end_given (get_or items i no_item).from) (λ v. (1 ≤ v) × (v ≤ count)))
+                (sym n) (end_within (length tasks) (get_or items i no_item).from ends.0);
+            consumer = subst (λ (count : ℕ). ForSome (end_given (get_or items i no_item).to) (λ v. (1 ≤ v) × (v ≤ count)))
+                (sym n) (end_within (length tasks) (get_or items i no_item).to ends.1);
           }));
       total = omega (arith, sum-mapped extra_size task_given tasks, sum-mapped item_size item_given items, total);
       shares = λ v is. shares v (is.0, omega (arith, n, is.1));

@@ -1,5 +1,6 @@
 -- Digits at the head of a text, and the token that they are.
-use Rattle.std.proofs.Common.{◌≡◌, ◌≢◌, ℕ, zero, suc, ◌+◌, ◌*◌, ◌-◌, ◌^◌, ◌<◌, ◌≤◌, true, false, List, [], ◌∷◌, ◌++◌, length, take, drop, get_or, Some, refl, sym, ap, ◌∙◌, arith, inl, inr, append_assoc, append-nil}
+use Rattle.std.proofs.Common.{◌≡◌, ◌≢◌, ℕ, zero, suc, ◌+◌, ◌*◌, ◌-◌, ◌^◌, ◌<◌, ◌≤◌, true, false, List, [], ◌∷◌, ◌++◌, length}
+use Rattle.std.proofs.Common.{take, drop, get_or, Some, refl, sym, ap, ◌∙◌, arith, inl, inr, append_assoc, append-nil}
 use Rattle.std.specs.List.{position_or_len, prefix_len}
 use Rattle.std.proofs.lemmas.Bool.Decides.{nat_tests}
 use Rattle.std.proofs.lemmas.List.{take_more, length-take-le}
@@ -39,14 +40,16 @@ digits-end n (suc len) v [] spelled within ends = absurd (omega arith)
 digits-end n (suc len) v (b ∷ bs) spelled within ends =
     elim (bool_cases (is_digit b)) [
       | inl digit ↦ (
-          let more = digits-end (10 * n + (b - 48)) len v bs (sym (number_from-digit n b (take len bs) digit) ∙ spelled) (omega arith) ends in
+          let more =
+          digits-end (10 * n + (b - 48)) len v bs (sym (number_from-digit n b (take len bs) digit) ∙ spelled) (omega arith) ends in
           let one : 1 + len ≡ suc len = omega arith in
           rw (digit-plain b digit) (ap (λ (k : ℕ). 1 + k) more ∙ one)
           )
       | inr other ↦ absurd (let none = number_from-other n b (take len bs) other in cc)
     ]
 
-module _ (line text : List ℕ) (text_is : text ≡ drop (prefix_len is_blank line) line) (len value : ℕ) (within : len ≤ length text) (some : len ≢ 0)
+module _ (line text : List ℕ) (text_is : text ≡ drop (prefix_len is_blank line) line)
+    (len value : ℕ) (within : len ≤ length text) (some : len ≢ 0)
     (fits : value < 2 ^ 64) (spells : Spells text len value) (ends : position_or_len is_blank (drop len text) ≡ 0) where
   cut : tokens_of line ≡ take len text ∷ tokens_of (drop len text)
   cut =

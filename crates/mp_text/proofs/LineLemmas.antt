@@ -1,5 +1,6 @@
 -- Where a line ends, and what its first byte says of it.
-use Rattle.std.proofs.Common.{◌≡◌, ◌≢◌, ℕ, ◌<◌, ◌≤◌, ◌||◌, Bool, true, false, eqb, List, [], ◌∷◌, length, take, drop, get_or, Option, Some, None, unwrap_or, refl, sym, ap, ◌∙◌, arith}
+use Rattle.std.proofs.Common.{◌≡◌, ◌≢◌, ℕ, ◌<◌, ◌≤◌, ◌||◌, Bool, true, false, eqb, List, [], ◌∷◌, length, take}
+use Rattle.std.proofs.Common.{drop, get_or, Option, Some, None, unwrap_or, refl, sym, ap, ◌∙◌, arith}
 use Rattle.std.specs.List.{position_or_len, prefix_len}
 use denote.Enum.Bare.{sameb}
 use Rattle.std.proofs.lemmas.Bool.{false_from_ne_true, ne_eqb}
@@ -32,7 +33,8 @@ module _ (line text : List ℕ) (text_is : text ≡ drop (prefix_len is_blank li
   blank-line layout none = rw (no_token line text text (prefix_len is_blank line) refl text_is (omega arith)) refl
 
   first_byte : (layout : Layout) (xs : List ℕ) → 1 ≤ length xs → is_blank (get_or xs 0 0) ≡ false →
-      says_nothing layout (take (position_or_len is_blank xs) xs ∷ tokens_of (drop (position_or_len is_blank xs) xs)) ≡ marks_comment layout (get_or xs 0 0)
+      says_nothing layout (take (position_or_len is_blank xs) xs ∷ tokens_of (drop (position_or_len is_blank xs) xs))
+      ≡ marks_comment layout (get_or xs 0 0)
   first_byte layout [] some plain = absurd (omega arith)
   first_byte Commented (b ∷ bs) some plain = rw (before_first-no is_blank b bs plain) refl
   first_byte Banner (b ∷ bs) some plain = rw (before_first-no is_blank b bs plain) refl
@@ -47,10 +49,13 @@ module _ (line text : List ℕ) (text_is : text ≡ drop (prefix_len is_blank li
   percent-line Commented some is = sym (begins Commented some ∙ rw is refl)
   percent-line Banner some is = sym (begins Banner some ∙ rw is refl)
 
-  pub hash-line : (layout : Layout) → 1 ≤ length text → get_or text 0 0 ≡ 35 → sameb the_type layout Commented ≡ says_nothing layout (tokens_of line)
+  pub hash-line : (layout : Layout) → 1 ≤ length text → get_or text 0 0 ≡ 35
+      → sameb the_type layout Commented ≡ says_nothing layout (tokens_of line)
   hash-line Commented some is = sym (begins Commented some ∙ rw is refl)
   hash-line Banner some is = sym (begins Banner some ∙ rw is refl)
 
-  pub other-line : (layout : Layout) → 1 ≤ length text → get_or text 0 0 ≢ 37 → get_or text 0 0 ≢ 35 → false ≡ says_nothing layout (tokens_of line)
-  other-line Commented some one two = sym (begins Commented some ∙ rw (ne_eqb (get_or text 0 0) 37 one, ne_eqb (get_or text 0 0) 35 two) refl)
+  pub other-line : (layout : Layout) → 1 ≤ length text → get_or text 0 0 ≢ 37
+      → get_or text 0 0 ≢ 35 → false ≡ says_nothing layout (tokens_of line)
+  other-line Commented some one two =
+      sym (begins Commented some ∙ rw (ne_eqb (get_or text 0 0) 37 one, ne_eqb (get_or text 0 0) 35 two) refl)
   other-line Banner some one two = sym (begins Banner some ∙ ne_eqb (get_or text 0 0) 37 one)

@@ -11,7 +11,8 @@ use Rattle.mp_text.specs.Reading.{IsFirst, Judges, IsRefusal}
 
 -- the first test that fails is a refusal of the file, where these tests are some of its tests
 pub refusal-of : {K : Type 0} (format : Format K) (rows : List Row) (past : ℕ) (tests : List (Test K)) (answer : Refusal K)
-    → ((r : Refusal K) → first_failure tests ≡ Some r → Refuses format rows past r) → IsFirst tests answer → IsRefusal format rows past answer
+    → ((r : Refusal K) → first_failure tests ≡ Some r → Refuses format rows past r)
+    → IsFirst tests answer → IsRefusal format rows past answer
 refusal-of format rows past tests refusals.NoMemory means first = tt
 refusal-of format rows past tests (refusals.Format f) means first = means _ first
 refusal-of format rows past tests (refusals.Limit l) means first = means _ first
@@ -33,7 +34,8 @@ module _ {K R : Type 0} (format : R → Format K) (has_taken : R → List Row �
   pub stands-first : (start : R) (all : List Row) → has_taken start [] → Stands start start all all
   stands-first start all none = record { before = []; split = refl; passed = passed-none (format start); took = none; same = refl }
 
-  module _ (start reader : R) (all ahead rest : List Row) (row : Row) (ahead_is : ahead ≡ row ∷ rest) (at : Stands start reader all ahead) where
+  module _ (start reader : R) (all ahead rest : List Row) (row : Row)
+      (ahead_is : ahead ≡ row ∷ rest) (at : Stands start reader all ahead) where
     -- the line is judged, whatever lines were before it
     abbrev pub LineJudged : Answer → R → Type 0
     LineJudged answer next = (before : List Row) → has_taken reader before → ArePassed (format reader) before →
@@ -84,5 +86,6 @@ module _ {K R : Type 0} (format : R → Format K) (has_taken : R → List Row �
 
     pub end-refused : (answer : Refusal K) → EndJudged (Err answer) reader → IsRefusal (format start) all past answer
     end-refused answer judged =
-        refusal-of (format start) all past ((format start).end_tests all past) answer (λ r fails. inr (record { passed = passed; fails = fails }))
+        refusal-of (format start) all past ((format start).end_tests all past) answer
+        (λ r fails. inr (record { passed = passed; fails = fails }))
         (the_end (Err answer) reader judged)

@@ -1,5 +1,7 @@
 -- How a report grows, and what is read of it.
-use Rattle.std.proofs.Common.{◌≡◌, ℕ, suc, ◌+◌, ◌-◌, ◌≤◌, ◌<◌, ◌^◌, Bool, true, false, not, nat_le, ltb, List, [], ◌∷◌, ◌++◌, length, map, take, get_or, All, if◌then◌else◌, refl, sym, ap, ◌∙◌, arith, rules, append_assoc, append-nil, Some, ℤ, pos, negsuc, eqb, leb}
+use Rattle.std.proofs.Common.{◌≡◌, ℕ, suc, ◌+◌, ◌-◌, ◌≤◌, ◌<◌, ◌^◌, Bool, true, false, not, nat_le, ltb, List}
+use Rattle.std.proofs.Common.{[], ◌∷◌, ◌++◌, length, map, take, get_or, All, if◌then◌else◌, refl, sym, ap, ◌∙◌}
+use Rattle.std.proofs.Common.{arith, rules, append_assoc, append-nil, Some, ℤ, pos, negsuc, eqb, leb}
 use Rattle.std.proofs.lemmas.Bool.{and_parts, and_from, not-true, or_parts, or_from, lt-ltb, leb-true, le-leb, ne_eqb, and_right}
 use Rattle.std.proofs.lemmas.List.Folds.{list_all-append}
 use Rattle.std.proofs.lemmas.List.Splits.{slice_split-cons_no}
@@ -15,10 +17,13 @@ use Rattle.std.proofs.lemmas.Str.Parse.{IsNumeralModel, numerals_by_fold}
 use Rattle.mp_text.specs.declared.layout.Layout.{Layout}
 use Rattle.mp_text.specs.declared.reports.Token.{Token}
 use Rattle.mp_text.specs.declared.layout.Layout.TheVariants.{Commented, Banner}
-use Rattle.mp_text.specs.Text.{is_blank, is_feed, is_filled, is_passed, is_banner, says_nothing, onto_line, lines_of, tokens_of, Row, rows_from, is_digit, value_from, number_from, number_of, numbers_of, is_comment, positive_of, negative_of, signed_of}
+use Rattle.mp_text.specs.Text.{is_blank, is_feed, is_filled, is_passed, is_banner, says_nothing, onto_line}
+use Rattle.mp_text.specs.Text.{lines_of, tokens_of, Row, rows_from, is_digit, value_from, number_from, number_of}
+use Rattle.mp_text.specs.Text.{numbers_of, is_comment, positive_of, negative_of, signed_of}
 use Rattle.mp_text.specs.Ahead.{rows_of_bytes, past_of_bytes}
 use Rattle.mp_text.specs.Comments.{is_comment_line}
-use Rattle.mp_text.specs.Report.{token_text, last_or, is_line_start, with_token, with_tokens, line_text, text_of_lines, is_plain, is_token, is_counted, numbered_from}
+use Rattle.mp_text.specs.Report.{token_text, last_or, is_line_start, with_token, with_tokens, line_text}
+use Rattle.mp_text.specs.Report.{text_of_lines, is_plain, is_token, is_counted, numbered_from}
 use Rattle.mp_text.proofs.TextLemmas.{lines_of-yes, lines_of-no, lines_of-nil, number_of-filled}
 
 -- ---- the last byte
@@ -45,7 +50,8 @@ not_blank b plain = (or_parts (is_blank b) (is_feed b) (not-true _ plain)).0
 -- a text that ends with plain bytes ends with no feed
 last_plain : (b : ℕ) (bytes : List ℕ) → is_feed b ≡ false → list_all is_plain bytes ≡ true → is_feed (last_or b bytes) ≡ false
 last_plain b [] before plain = before
-last_plain b (c ∷ bytes) before plain = let parts = and_parts (is_plain c) (list_all is_plain bytes) plain in last_plain c bytes (not_feed c parts.0) parts.1
+last_plain b (c ∷ bytes) before plain = let parts = and_parts (is_plain c) (list_all is_plain bytes) plain in
+    last_plain c bytes (not_feed c parts.0) parts.1
 
 -- a text that ends with a token is at no line start
 in_line : (text token : List ℕ) → is_token token ≡ true → is_line_start (text ++ token) ≡ false
@@ -72,7 +78,8 @@ with_tokens-within text token (next ∷ tokens) within are =
     ∙ append_assoc text (32 ∷ token) (32 ∷ join_with_byte 32 (next ∷ tokens)))
 
 -- from the start of a line on
-with_tokens-start : (text : List ℕ) (tokens : List (List ℕ)) → is_line_start text ≡ true → list_all is_token tokens ≡ true → with_tokens text tokens ≡ text ++ join_with_byte 32 tokens
+with_tokens-start : (text : List ℕ) (tokens : List (List ℕ)) → is_line_start text ≡ true
+    → list_all is_token tokens ≡ true → with_tokens text tokens ≡ text ++ join_with_byte 32 tokens
 with_tokens-start text [] start are = sym (append-nil text)
 with_tokens-start text (token ∷ []) start are = rw start refl
 with_tokens-start text (token ∷ next ∷ tokens) start are =
@@ -80,18 +87,24 @@ with_tokens-start text (token ∷ next ∷ tokens) start are =
     rw start (with_tokens-within (text ++ token) next tokens (in_line text token parts.0) parts.1
     ∙ append_assoc text token (32 ∷ join_with_byte 32 (next ∷ tokens)))
 
-pub with_tokens-line : (text : List ℕ) (tokens : List (List ℕ)) → is_line_start text ≡ true → list_all is_token tokens ≡ true → with_tokens text tokens ++ 10 ∷ [] ≡ text ++ line_text tokens
-with_tokens-line text tokens start are = ap (λ (t : List ℕ). t ++ 10 ∷ []) (with_tokens-start text tokens start are) ∙ append_assoc text (join_with_byte 32 tokens) (10 ∷ [])
+pub with_tokens-line : (text : List ℕ) (tokens : List (List ℕ)) → is_line_start text ≡ true
+    → list_all is_token tokens ≡ true → with_tokens text tokens ++ 10 ∷ [] ≡ text ++ line_text tokens
+with_tokens-line text tokens start are =
+    ap (λ (t : List ℕ). t ++ 10 ∷ []) (with_tokens-start text tokens start are) ∙ append_assoc text (join_with_byte 32 tokens) (10 ∷ [])
 
 pub is_line_start-line : (text : List ℕ) (tokens : List (List ℕ)) → is_line_start (text ++ line_text tokens) ≡ true
-is_line_start-line text tokens = rw (← append_assoc text (join_with_byte 32 tokens) (10 ∷ [])) (ap is_feed (last_or-append 10 (text ++ join_with_byte 32 tokens) 10 []))
+is_line_start-line text tokens =
+    rw (← append_assoc text (join_with_byte 32 tokens) (10 ∷ [])) (ap is_feed (last_or-append 10 (text ++ join_with_byte 32 tokens) 10 []))
 
-pub is_line_start-lines : (text : List ℕ) (lines : List (List (List ℕ))) → is_line_start text ≡ true → is_line_start (text ++ text_of_lines lines) ≡ true
+pub is_line_start-lines : (text : List ℕ) (lines : List (List (List ℕ)))
+    → is_line_start text ≡ true → is_line_start (text ++ text_of_lines lines) ≡ true
 is_line_start-lines text [] start = rw (append-nil text) start
 is_line_start-lines text (line ∷ lines) start =
-    rw (← append_assoc text (line_text line) (text_of_lines lines)) (is_line_start-lines (text ++ line_text line) lines (is_line_start-line text line))
+    rw (← append_assoc text (line_text line) (text_of_lines lines))
+    (is_line_start-lines (text ++ line_text line) lines (is_line_start-line text line))
 
-pub text_of_lines-push : (text : List ℕ) (lines : List (List (List ℕ))) (line : List (List ℕ)) → (text ++ text_of_lines lines) ++ line_text line ≡ text ++ text_of_lines (lines ++ line ∷ [])
+pub text_of_lines-push : (text : List ℕ) (lines : List (List (List ℕ))) (line : List (List ℕ))
+    → (text ++ text_of_lines lines) ++ line_text line ≡ text ++ text_of_lines (lines ++ line ∷ [])
 text_of_lines-push text lines line = flat_map_more line_text text lines line
 
 pub text_of_lines-append : (xs ys : List (List (List ℕ))) → text_of_lines (xs ++ ys) ≡ text_of_lines xs ++ text_of_lines ys
@@ -99,22 +112,31 @@ text_of_lines-append xs ys = flat_map-append line_text xs ys
 
 -- ---- a line that is printed, or a part of it
 
-pub with_tokens-push : (text : List ℕ) (tokens : List (List ℕ)) (token : List ℕ) → with_tokens text (tokens ++ token ∷ []) ≡ with_token (with_tokens text tokens) token
+pub with_tokens-push : (text : List ℕ) (tokens : List (List ℕ)) (token : List ℕ)
+    → with_tokens text (tokens ++ token ∷ []) ≡ with_token (with_tokens text tokens) token
 with_tokens-push text [] token = refl
 with_tokens-push text (first ∷ tokens) token = with_tokens-push (with_token text first) tokens token
 
-texts-more : (tokens : List Token) (i : ℕ) (d : Token) → i < length tokens → map token_text (take (i + 1) tokens) ≡ map token_text (take i tokens) ++ token_text (get_or tokens i d) ∷ []
-texts-more tokens i d within = ap (map token_text) (take_more tokens i d within) ∙ map-append token_text (take i tokens) (get_or tokens i d ∷ [])
+texts-more : (tokens : List Token) (i : ℕ) (d : Token) → i < length tokens
+    → map token_text (take (i + 1) tokens) ≡ map token_text (take i tokens) ++ token_text (get_or tokens i d) ∷ []
+texts-more tokens i d within =
+    ap (map token_text) (take_more tokens i d within) ∙ map-append token_text (take i tokens) (get_or tokens i d ∷ [])
 
 -- a loop appends one token more
 module _ (tokens : List Token) (i : ℕ) (d : Token) (within : i < length tokens) where
-  pub text-more : (old text new : List ℕ) → text ≡ with_tokens old (map token_text (take i tokens)) → new ≡ with_token text (token_text (get_or tokens i d)) → new ≡ with_tokens old (map token_text (take (i + 1) tokens))
+  pub text-more : (old text new : List ℕ) → text ≡ with_tokens old (map token_text (take i tokens))
+      → new ≡ with_token text (token_text (get_or tokens i d)) → new ≡ with_tokens old (map token_text (take (i + 1) tokens))
   text-more old text new before one =
-      one ∙ ap (λ (t : List ℕ). with_token t (token_text (get_or tokens i d))) before ∙ sym (ap (with_tokens old) (texts-more tokens i d within) ∙ with_tokens-push old (map token_text (take i tokens)) (token_text (get_or tokens i d)))
+      one ∙ ap (λ (t : List ℕ). with_token t (token_text (get_or tokens i d))) before
+      ∙ sym (ap (with_tokens old) (texts-more tokens i d within)
+      ∙ with_tokens-push old (map token_text (take i tokens)) (token_text (get_or tokens i d)))
 
-  pub tokens-more : list_all is_token (map token_text (take i tokens)) ≡ true → is_token (token_text (get_or tokens i d)) ≡ true → list_all is_token (map token_text (take (i + 1) tokens)) ≡ true
+  pub tokens-more : list_all is_token (map token_text (take i tokens)) ≡ true
+      → is_token (token_text (get_or tokens i d)) ≡ true → list_all is_token (map token_text (take (i + 1) tokens)) ≡ true
   tokens-more before one =
-      rw (texts-more tokens i d within) (list_all-append is_token (map token_text (take i tokens)) (token_text (get_or tokens i d) ∷ []) ∙ and_from _ _ before (and_from _ _ one refl))
+      rw (texts-more tokens i d within)
+      (list_all-append is_token (map token_text (take i tokens)) (token_text (get_or tokens i d) ∷ [])
+      ∙ and_from _ _ before (and_from _ _ one refl))
 
 -- a text begins with what stood there
 abbrev pub Begins : List ℕ → List ℕ → Type 0
@@ -181,23 +203,27 @@ split_plain (b ∷ bytes) plain =
     let parts = all_parts is_plain b bytes plain in
     slice_split-cons_no is_blank b bytes (not_blank b parts.0) ∙ ap (onto_first b) (split_plain bytes parts.1)
 
-split_blank : (bytes rest : List ℕ) → list_all is_plain bytes ≡ true → slice_split is_blank (bytes ++ 32 ∷ rest) ≡ bytes ∷ slice_split is_blank rest
+split_blank : (bytes rest : List ℕ) → list_all is_plain bytes ≡ true
+    → slice_split is_blank (bytes ++ 32 ∷ rest) ≡ bytes ∷ slice_split is_blank rest
 split_blank [] rest plain = refl
 split_blank (b ∷ bytes) rest plain =
     let parts = all_parts is_plain b bytes plain in
     slice_split-cons_no is_blank b (bytes ++ 32 ∷ rest) (not_blank b parts.0) ∙ ap (onto_first b) (split_blank bytes rest parts.1)
 
-split_joined : (token : List ℕ) (tokens : List (List ℕ)) → list_all is_token (token ∷ tokens) ≡ true → slice_split is_blank (join_with_byte 32 (token ∷ tokens)) ≡ token ∷ tokens
+split_joined : (token : List ℕ) (tokens : List (List ℕ)) → list_all is_token (token ∷ tokens) ≡ true
+    → slice_split is_blank (join_with_byte 32 (token ∷ tokens)) ≡ token ∷ tokens
 split_joined token [] are = split_plain token (token_plain token (all_parts is_token token [] are).0)
 split_joined token (next ∷ tokens) are =
     let parts = all_parts is_token token (next ∷ tokens) are in
-    split_blank token (join_with_byte 32 (next ∷ tokens)) (token_plain token parts.0) ∙ ap (λ (ts : List (List ℕ)). token ∷ ts) (split_joined next tokens parts.1)
+    split_blank token (join_with_byte 32 (next ∷ tokens)) (token_plain token parts.0)
+    ∙ ap (λ (ts : List (List ℕ)). token ∷ ts) (split_joined next tokens parts.1)
 
 filled_kept : (tokens : List (List ℕ)) → list_all is_token tokens ≡ true → filter is_filled tokens ≡ tokens
 filled_kept [] are = refl
 filled_kept (token ∷ tokens) are =
     let parts = all_parts is_token token tokens are in
-    rw ((and_parts (is_filled token) (list_all is_plain token) parts.0).0) (ap (λ (ts : List (List ℕ)). token ∷ ts) (filled_kept tokens parts.1))
+    rw ((and_parts (is_filled token) (list_all is_plain token) parts.0).0)
+    (ap (λ (ts : List (List ℕ)). token ∷ ts) (filled_kept tokens parts.1))
 
 pub tokens_of-joined : (tokens : List (List ℕ)) → list_all is_token tokens ≡ true → tokens_of (join_with_byte 32 tokens) ≡ tokens
 unfolding tokens_of
@@ -207,19 +233,23 @@ tokens_of-joined (token ∷ tokens) are = ap (filter is_filled) (split_joined to
 lines_of-printed : (line : List (List ℕ)) (lines : List (List (List ℕ))) → list_all is_token line ≡ true
     → lines_of (text_of_lines (line ∷ lines)) ≡ join_with_byte 32 line ∷ lines_of (text_of_lines lines)
 lines_of-printed line lines are =
-    ap lines_of (append_assoc (join_with_byte 32 line) (10 ∷ []) (text_of_lines lines)) ∙ lines_of-fed (join_with_byte 32 line) (text_of_lines lines) (joined_kept line are)
+    ap lines_of (append_assoc (join_with_byte 32 line) (10 ∷ []) (text_of_lines lines))
+    ∙ lines_of-fed (join_with_byte 32 line) (text_of_lines lines) (joined_kept line are)
 
-pub rows_from-printed : (layout : Layout) (n : ℕ) (lines : List (List (List ℕ))) → list_all (is_counted layout) lines ≡ true → rows_from layout n (lines_of (text_of_lines lines)) ≡ numbered_from n lines
+pub rows_from-printed : (layout : Layout) (n : ℕ) (lines : List (List (List ℕ)))
+    → list_all (is_counted layout) lines ≡ true → rows_from layout n (lines_of (text_of_lines lines)) ≡ numbered_from n lines
 unfolding rows_from
 rows_from-printed layout n [] counted = rw lines_of-nil refl
 rows_from-printed layout n (line ∷ lines) counted =
     let parts = all_parts (is_counted layout) line lines counted in
     let here = and_parts (list_all is_token line) (not (says_nothing layout line)) parts.0 in
     let kept : is_passed layout n line ≡ false = and_right (not (is_banner layout n)) _ (not-true _ here.1) in
-    rw (lines_of-printed line lines here.0, tokens_of-joined line here.0, kept) (ap (λ (rows : List Row). record { number = n; tokens = line } ∷ rows) (rows_from-printed layout (n + 1) lines parts.1))
+    rw (lines_of-printed line lines here.0, tokens_of-joined line here.0, kept)
+    (ap (λ (rows : List Row). record { number = n; tokens = line } ∷ rows) (rows_from-printed layout (n + 1) lines parts.1))
 
 -- lines of comments alone
-rows_from-comments : (n : ℕ) (comments : List (List (List ℕ))) → list_all is_comment_line comments ≡ true → rows_from Commented n (lines_of (text_of_lines comments)) ≡ []
+rows_from-comments : (n : ℕ) (comments : List (List (List ℕ))) → list_all is_comment_line comments ≡ true
+    → rows_from Commented n (lines_of (text_of_lines comments)) ≡ []
 unfolding rows_from
 rows_from-comments n [] are = rw lines_of-nil refl
 rows_from-comments n (line ∷ comments) are =
@@ -229,7 +259,8 @@ rows_from-comments n (line ∷ comments) are =
     rw (lines_of-printed line comments here.0, tokens_of-joined line here.0, passed) (rows_from-comments (n + 1) comments parts.1)
 
 -- and after others
-rows_from-commented : (n : ℕ) (lines comments : List (List (List ℕ))) → list_all (is_counted Commented) lines ≡ true → list_all is_comment_line comments ≡ true
+rows_from-commented : (n : ℕ) (lines comments : List (List (List ℕ)))
+    → list_all (is_counted Commented) lines ≡ true → list_all is_comment_line comments ≡ true
     → rows_from Commented n (lines_of (text_of_lines (lines ++ comments))) ≡ numbered_from n lines
 unfolding rows_from
 rows_from-commented n [] comments counted are = rows_from-comments n comments are
@@ -240,36 +271,43 @@ rows_from-commented n (line ∷ lines) comments counted are =
     rw (lines_of-printed line (lines ++ comments) here.0, tokens_of-joined line here.0, kept)
     (ap (λ (rows : List Row). record { number = n; tokens = line } ∷ rows) (rows_from-commented (n + 1) lines comments parts.1 are))
 
-pub rows_of_bytes-commented : (lines comments : List (List (List ℕ))) → list_all (is_counted Commented) lines ≡ true → list_all is_comment_line comments ≡ true
+pub rows_of_bytes-commented : (lines comments : List (List (List ℕ)))
+    → list_all (is_counted Commented) lines ≡ true → list_all is_comment_line comments ≡ true
     → rows_of_bytes Commented (text_of_lines (lines ++ comments)) ≡ numbered_from 1 lines
 rows_of_bytes-commented lines comments counted are = rows_from-commented 1 lines comments counted are
 
-pub length-lines_of-printed : (lines : List (List (List ℕ))) → list_all (list_all is_token) lines ≡ true → length (lines_of (text_of_lines lines)) ≡ length lines
+pub length-lines_of-printed : (lines : List (List (List ℕ)))
+    → list_all (list_all is_token) lines ≡ true → length (lines_of (text_of_lines lines)) ≡ length lines
 length-lines_of-printed [] are = ap length lines_of-nil
 length-lines_of-printed (line ∷ lines) are =
     let parts = all_parts (list_all is_token) line lines are in
     ap length (lines_of-printed line lines parts.0) ∙ ap suc (length-lines_of-printed lines parts.1)
 
-counted_tokens : (layout : Layout) (lines : List (List (List ℕ))) → list_all (is_counted layout) lines ≡ true → list_all (list_all is_token) lines ≡ true
+counted_tokens : (layout : Layout) (lines : List (List (List ℕ)))
+    → list_all (is_counted layout) lines ≡ true → list_all (list_all is_token) lines ≡ true
 counted_tokens layout [] counted = refl
 counted_tokens layout (line ∷ lines) counted =
     let parts = all_parts (is_counted layout) line lines counted in
     and_from _ _ (and_parts (list_all is_token line) (not (says_nothing layout line)) parts.0).0 (counted_tokens layout lines parts.1)
 
-pub numbered_from-append : (n : ℕ) (xs ys : List (List (List ℕ))) → numbered_from n (xs ++ ys) ≡ numbered_from n xs ++ numbered_from (n + length xs) ys
+pub numbered_from-append : (n : ℕ) (xs ys : List (List (List ℕ)))
+    → numbered_from n (xs ++ ys) ≡ numbered_from n xs ++ numbered_from (n + length xs) ys
 numbered_from-append n [] ys = let same : n ≡ n + 0 = omega arith in ap (λ (m : ℕ). numbered_from m ys) same
 numbered_from-append n (x ∷ xs) ys =
     let same : n + 1 + length xs ≡ n + suc (length xs) = omega arith in
-    ap (λ (rows : List Row). record { number = n; tokens = x } ∷ rows) (numbered_from-append (n + 1) xs ys ∙ ap (λ (m : ℕ). numbered_from (n + 1) xs ++ numbered_from m ys) same)
+    ap (λ (rows : List Row). record { number = n; tokens = x } ∷ rows)
+    (numbered_from-append (n + 1) xs ys ∙ ap (λ (m : ℕ). numbered_from (n + 1) xs ++ numbered_from m ys) same)
 
 pub length-numbered_from : (n : ℕ) (lines : List (List (List ℕ))) → length (numbered_from n lines) ≡ length lines
 length-numbered_from n [] = refl
 length-numbered_from n (line ∷ lines) = ap suc (length-numbered_from (n + 1) lines)
 
-pub rows_of_bytes-printed : (layout : Layout) (lines : List (List (List ℕ))) → list_all (is_counted layout) lines ≡ true → rows_of_bytes layout (text_of_lines lines) ≡ numbered_from 1 lines
+pub rows_of_bytes-printed : (layout : Layout) (lines : List (List (List ℕ)))
+    → list_all (is_counted layout) lines ≡ true → rows_of_bytes layout (text_of_lines lines) ≡ numbered_from 1 lines
 rows_of_bytes-printed layout lines counted = rows_from-printed layout 1 lines counted
 
-pub past_of_bytes-printed : (layout : Layout) (lines : List (List (List ℕ))) → list_all (is_counted layout) lines ≡ true → past_of_bytes (text_of_lines lines) ≡ length lines + 1
+pub past_of_bytes-printed : (layout : Layout) (lines : List (List (List ℕ)))
+    → list_all (is_counted layout) lines ≡ true → past_of_bytes (text_of_lines lines) ≡ length lines + 1
 past_of_bytes-printed layout lines counted = let e = length-lines_of-printed lines (counted_tokens layout lines counted) in omega arith
 
 -- ---- numbers
@@ -300,12 +338,14 @@ no_comment Banner (b ∷ bs) digits = let low = digit_low b (all_parts is_digit 
 digit_plain : (b : ℕ) → is_digit b ≡ true → is_plain b ≡ true
 digit_plain b digit =
     let low = digit_low b digit in
-    let blank : is_blank b ≡ false = or_from _ _ (or_from _ _ (ne_eqb b 32 (λ e. omega arith)) (ne_eqb b 9 (λ e. omega arith))) (ne_eqb b 13 (λ e. omega arith)) in
+    let blank : is_blank b ≡ false =
+    or_from _ _ (or_from _ _ (ne_eqb b 32 (λ e. omega arith)) (ne_eqb b 9 (λ e. omega arith))) (ne_eqb b 13 (λ e. omega arith)) in
     ap not (or_from _ _ blank (ne_eqb b 10 (λ e. omega arith)))
 
 pub number_of-decimal : (n : ℕ) → n < 2 ^ 64 → number_of (decimal n) ≡ Some n
 number_of-decimal n fits =
-    number_of-filled (decimal n) (decimal_nonempty n fits) ∙ number_from-fits (decimal n) n (digits_decimal own_digits n fits) (digits_value-decimal own_digits n fits) fits
+    number_of-filled (decimal n) (decimal_nonempty n fits)
+    ∙ number_from-fits (decimal n) n (digits_decimal own_digits n fits) (digits_value-decimal own_digits n fits) fits
 
 digits_plain : (bytes : List ℕ) → list_all is_digit bytes ≡ true → list_all is_plain bytes ≡ true
 digits_plain [] digits = refl
@@ -314,9 +354,11 @@ digits_plain (b ∷ bytes) digits =
     and_from _ _ (digit_plain b parts.0) (digits_plain bytes parts.1)
 
 pub is_token-decimal : (n : ℕ) → n < 2 ^ 64 → is_token (decimal n) ≡ true
-is_token-decimal n fits = and_from _ _ (filled (decimal n) (decimal_nonempty n fits)) (digits_plain (decimal n) (digits_decimal own_digits n fits))
+is_token-decimal n fits =
+    and_from _ _ (filled (decimal n) (decimal_nonempty n fits)) (digits_plain (decimal n) (digits_decimal own_digits n fits))
 
-pub is_counted-decimal : (layout : Layout) (n : ℕ) (tokens : List (List ℕ)) → n < 2 ^ 64 → list_all is_token tokens ≡ true → is_counted layout (decimal n ∷ tokens) ≡ true
+pub is_counted-decimal : (layout : Layout) (n : ℕ) (tokens : List (List ℕ)) → n < 2 ^ 64
+    → list_all is_token tokens ≡ true → is_counted layout (decimal n ∷ tokens) ≡ true
 is_counted-decimal layout n tokens fits are =
     and_from _ _ (and_from _ _ (is_token-decimal n fits) are) (ap not (no_comment layout (decimal n) (digits_decimal own_digits n fits)))
 
@@ -332,7 +374,9 @@ numbers_of-decimals (n ∷ ns) fit =
 signed_of-digits : (bs : List ℕ) → list_all is_digit bs ≡ true → 0 < length bs → signed_of bs ≡ option_and_then positive_of (number_of bs)
 unfolding signed_of
 signed_of-digits [] digits some = absurd (omega arith)
-signed_of-digits (b ∷ bs) digits some = let other : eqb b 45 ≡ false = ne_eqb b 45 (λ e. let low = digit_low b (all_parts is_digit b bs digits).0 in omega arith) in rw other refl
+signed_of-digits (b ∷ bs) digits some = let other : eqb b 45 ≡ false =
+    ne_eqb b 45 (λ e. let low = digit_low b (all_parts is_digit b bs digits).0 in omega arith) in
+    rw other refl
 
 pub signed_of-signed_decimal : (z : ℤ) → FitsSigned w64 z → signed_of (signed_decimal z) ≡ Some z
 unfolding signed_of

@@ -1,5 +1,6 @@
 -- A scan of lines: what it passed over, and what it gives.
-use Rattle.std.proofs.Common.{◌≡◌, ℕ, suc, ◌+◌, true, false, List, [], ◌∷◌, ◌++◌, length, length-append, refl, sym, ap, subst, ◌∙◌, arith, append_assoc, append-nil}
+use Rattle.std.proofs.Common.{◌≡◌, ℕ, suc, ◌+◌, true, false, List, [], ◌∷◌, ◌++◌, length, length-append}
+use Rattle.std.proofs.Common.{refl, sym, ap, subst, ◌∙◌, arith, append_assoc, append-nil}
 use Rattle.std.proofs.lemmas.Bool.{and_parts, and_from}
 use Rattle.mp_text.specs.declared.layout.Layout.{Layout}
 use Rattle.mp_text.specs.Text.{tokens_of, is_passed, are_passed, rows_from}
@@ -11,14 +12,17 @@ module _ (layout : Layout) where
   passes : (m n : ℕ) (line : List ℕ) → m ≡ n → is_passed layout m (tokens_of line) ≡ true → is_passed layout n (tokens_of line) ≡ true
   passes m n line same passed = subst (λ (k : ℕ). is_passed layout k (tokens_of line) ≡ true) same passed
 
-  are_passed-push : (n : ℕ) (lines : List (List ℕ)) (line : List ℕ) → are_passed layout n lines ≡ true → is_passed layout (n + length lines) (tokens_of line) ≡ true
+  are_passed-push : (n : ℕ) (lines : List (List ℕ)) (line : List ℕ)
+      → are_passed layout n lines ≡ true → is_passed layout (n + length lines) (tokens_of line) ≡ true
       → are_passed layout n (lines ++ line ∷ []) ≡ true
   are_passed-push n [] line all last = and_from _ _ (passes (n + 0) n line (omega arith) last) refl
   are_passed-push n (first ∷ lines) line all last =
       let parts = and_parts (is_passed layout n (tokens_of first)) (are_passed layout (n + 1) lines) all in
-      and_from _ _ parts.0 (are_passed-push (n + 1) lines line parts.1 (passes (n + suc (length lines)) (n + 1 + length lines) line (omega arith) last))
+      and_from _ _ parts.0
+      (are_passed-push (n + 1) lines line parts.1 (passes (n + suc (length lines)) (n + 1 + length lines) line (omega arith) last))
 
-  rows_from-passed : (n : ℕ) (lines rest : List (List ℕ)) → are_passed layout n lines ≡ true → rows_from layout n (lines ++ rest) ≡ rows_from layout (n + length lines) rest
+  rows_from-passed : (n : ℕ) (lines rest : List (List ℕ)) → are_passed layout n lines ≡ true
+      → rows_from layout n (lines ++ rest) ≡ rows_from layout (n + length lines) rest
   unfolding rows_from
   rows_from-passed n [] rest all = let e : n ≡ n + 0 = omega arith in ap (λ (m : ℕ). rows_from layout m rest) e
   rows_from-passed n (line ∷ lines) rest all =
@@ -26,7 +30,8 @@ module _ (layout : Layout) where
       let e : n + 1 + length lines ≡ n + suc (length lines) = omega arith in
       rw parts.0 (rows_from-passed (n + 1) lines rest parts.1 ∙ ap (λ (m : ℕ). rows_from layout m rest) e)
 
-  rows_from-counts : (n : ℕ) (line : List ℕ) (rest : List (List ℕ)) → is_passed layout n (tokens_of line) ≡ false → rows_from layout n (line ∷ rest) ≡ row n line ∷ rows_from layout (n + 1) rest
+  rows_from-counts : (n : ℕ) (line : List ℕ) (rest : List (List ℕ)) → is_passed layout n (tokens_of line) ≡ false
+      → rows_from layout n (line ∷ rest) ≡ row n line ∷ rows_from layout (n + 1) rest
   unfolding rows_from
   rows_from-counts n line rest counts = rw counts refl
 
@@ -48,7 +53,8 @@ pub past-none : (a : Ahead) → IsPast a a
 past-none a = record { skipped = []; lines = refl; passed = refl; number = omega arith; layout = refl }
 
 -- a scan takes a line more
-module _ (old at new : Ahead) (number : ℕ) (text : List ℕ) (past : IsPast old at) (number_is : number ≡ at.number) (lines : at.lines ≡ text ∷ new.lines) (next : new.number ≡ at.number + 1) where
+module _ (old at new : Ahead) (number : ℕ) (text : List ℕ) (past : IsPast old at)
+    (number_is : number ≡ at.number) (lines : at.lines ≡ text ∷ new.lines) (next : new.number ≡ at.number + 1) where
   whole : old.lines ≡ past.skipped ++ text ∷ new.lines
   whole = past.lines ∙ ap (λ (ls : List (List ℕ)). past.skipped ++ ls) lines
 
@@ -56,7 +62,8 @@ module _ (old at new : Ahead) (number : ℕ) (text : List ℕ) (past : IsPast ol
   past-more same passed = record {
     skipped = past.skipped ++ text ∷ [];
     lines = whole ∙ sym (append_assoc past.skipped (text ∷ []) new.lines);
-    passed = are_passed-push old.layout old.number past.skipped text past.passed (passes old.layout number (old.number + length past.skipped) text (number_is ∙ past.number) passed);
+    passed = are_passed-push old.layout old.number past.skipped text past.passed
+        (passes old.layout number (old.number + length past.skipped) text (number_is ∙ past.number) passed);
     number = omega (arith, past.number, length-append past.skipped (text ∷ []));
     layout = same ∙ past.layout;
   }

@@ -1,5 +1,6 @@
 -- How a scan takes off the first line, the first token and the first digit.
-use Rattle.std.proofs.Common.{◌≡◌, ℕ, zero, suc, ◌+◌, ◌*◌, ◌-◌, ◌^◌, ◌<◌, ◌≤◌, Bool, true, false, ltb, eqb, List, [], ◌∷◌, length, take, drop, get_or, refl, sym, ap, ◌∙◌, arith, Option, Some, None, inl, inr, ⊎_elim}
+use Rattle.std.proofs.Common.{◌≡◌, ℕ, zero, suc, ◌+◌, ◌*◌, ◌-◌, ◌^◌, ◌<◌, ◌≤◌, Bool, true, false, ltb, eqb, List, [], ◌∷◌}
+use Rattle.std.proofs.Common.{length, take, drop, get_or, refl, sym, ap, ◌∙◌, arith, Option, Some, None, inl, inr, ⊎_elim}
 use Rattle.std.proofs.lemmas.Bool.{lt-ltb, le-ltb}
 use Rattle.std.specs.List.{position_or_len, prefix_len, before_first, after_first, filter, slice_split, onto_first, list_all}
 use Rattle.std.proofs.lemmas.List.{drop_all, drop-drop, take_rest, length-drop}
@@ -8,7 +9,8 @@ use Rattle.std.specs.Option.{SomeIff, MatchOption, option_and_then}
 use Rattle.std.proofs.lemmas.Bool.{and_parts}
 use lib.Pointwise.{pointwise}
 use Rattle.std.proofs.str.Laws.{order}
-use Rattle.mp_text.specs.Text.{is_blank, is_feed, onto_line, lines_of, is_filled, tokens_of, is_digit, value_from, number_from, number_of, positive_of, negative_of, signed_of}
+use Rattle.mp_text.specs.Text.{is_blank, is_feed, onto_line, lines_of, is_filled, tokens_of, is_digit, value_from}
+use Rattle.mp_text.specs.Text.{number_from, number_of, positive_of, negative_of, signed_of}
 use Rattle.lists.proofs.Bools.{true_or_false}
 
 -- ---- a cut at the first element that passes
@@ -20,10 +22,12 @@ pub after_first-yes : {X : Type 0} (p : X → Bool) (x : X) (xs : List X) → p 
 after_first-yes p x xs h = rw h refl
 
 pub before_first-no : {X : Type 0} (p : X → Bool) (x : X) (xs : List X) → p x ≡ false → before_first p (x ∷ xs) ≡ x ∷ before_first p xs
-before_first-no p x xs h = rw h (let e : 1 + position_or_len p xs ≡ suc (position_or_len p xs) = omega arith in ap (λ (n : ℕ). take n (x ∷ xs)) e)
+before_first-no p x xs h =
+    rw h (let e : 1 + position_or_len p xs ≡ suc (position_or_len p xs) = omega arith in ap (λ (n : ℕ). take n (x ∷ xs)) e)
 
 pub after_first-no : {X : Type 0} (p : X → Bool) (x : X) (xs : List X) → p x ≡ false → after_first p (x ∷ xs) ≡ after_first p xs
-after_first-no p x xs h = rw h (let e : 1 + position_or_len p xs + 1 ≡ suc (position_or_len p xs + 1) = omega arith in ap (λ (n : ℕ). drop n (x ∷ xs)) e)
+after_first-no p x xs h =
+    rw h (let e : 1 + position_or_len p xs + 1 ≡ suc (position_or_len p xs + 1) = omega arith in ap (λ (n : ℕ). drop n (x ∷ xs)) e)
 
 -- ---- lines
 
@@ -49,7 +53,8 @@ lines_of-cut b [] =
 lines_of-cut b (c ∷ cs) =
     elim (true_or_false (is_feed b)) [
       | inl h ↦ rw (lines_of-yes b (c ∷ cs) h, before_first-yes is_feed b (c ∷ cs) h, after_first-yes is_feed b (c ∷ cs) h) refl
-      | inr h ↦ rw (lines_of-no b (c ∷ cs) h, before_first-no is_feed b (c ∷ cs) h, after_first-no is_feed b (c ∷ cs) h) (ap (onto_line b) (lines_of-cut c cs))
+      | inr h ↦ rw (lines_of-no b (c ∷ cs) h, before_first-no is_feed b (c ∷ cs) h, after_first-no is_feed b (c ∷ cs) h)
+          (ap (onto_line b) (lines_of-cut c cs))
     ]
 
 -- ---- tokens
@@ -64,8 +69,13 @@ cut_of : (p : ℕ → Bool) (xs : List ℕ) → Cut p xs
 cut_of p [] = record { parts = []; split = refl; rest = refl }
 cut_of p (x ∷ xs) =
     elim (true_or_false (p x)) [
-      | inl h ↦ record { parts = slice_split p xs; split = rw (before_first-yes p x xs h, h) refl; rest = rw (after_first-yes p x xs h) refl }
-      | inr h ↦ (let c = cut_of p xs in record { parts = c.parts; split = rw (before_first-no p x xs h, h) (ap (onto_first x) c.split); rest = rw (after_first-no p x xs h) c.rest })
+      | inl h ↦
+          record { parts = slice_split p xs; split = rw (before_first-yes p x xs h, h) refl; rest = rw (after_first-yes p x xs h) refl }
+      | inr h ↦ (let c = cut_of p xs in record {
+        parts = c.parts;
+        split = rw (before_first-no p x xs h, h) (ap (onto_first x) c.split);
+        rest = rw (after_first-no p x xs h) c.rest;
+      })
     ]
 
 pub tokens_of-nil : tokens_of [] ≡ []
@@ -76,7 +86,8 @@ pub tokens_of-skip : (b : ℕ) (bs : List ℕ) → is_blank b ≡ true → token
 unfolding tokens_of
 tokens_of-skip b bs h = rw h refl
 
-pub tokens_of-cut : (b : ℕ) (bs : List ℕ) → is_blank b ≡ false → tokens_of (b ∷ bs) ≡ before_first is_blank (b ∷ bs) ∷ tokens_of (after_first is_blank (b ∷ bs))
+pub tokens_of-cut : (b : ℕ) (bs : List ℕ) → is_blank b ≡ false
+    → tokens_of (b ∷ bs) ≡ before_first is_blank (b ∷ bs) ∷ tokens_of (after_first is_blank (b ∷ bs))
 unfolding tokens_of
 tokens_of-cut b bs h =
     let c = cut_of is_blank (b ∷ bs) in
@@ -128,7 +139,8 @@ tokens_of-drop zero xs h = refl
 tokens_of-drop (suc n) [] h = refl
 tokens_of-drop (suc n) (x ∷ xs) h =
     elim (true_or_false (is_blank x)) [
-      | inl b ↦ (let shorter : suc n ≤ 1 + prefix_len is_blank xs = rw b at h in tokens_of-drop n xs (omega arith) ∙ sym (tokens_of-skip x xs b))
+      | inl b ↦
+          (let shorter : suc n ≤ 1 + prefix_len is_blank xs = rw b at h in tokens_of-drop n xs (omega arith) ∙ sym (tokens_of-skip x xs b))
       | inr b ↦ (let none : suc n ≤ 0 = rw b at h in absurd (omega arith))
     ]
 
@@ -147,7 +159,10 @@ pub not_blank_after : (xs : List ℕ) → prefix_len is_blank xs < length xs →
 not_blank_after [] h = absurd (omega arith)
 not_blank_after (x ∷ xs) h =
     elim (true_or_false (is_blank x)) [
-      | inl b ↦ (let shorter : 1 + prefix_len is_blank xs < suc (length xs) = rw b at h in let one : 1 + prefix_len is_blank xs ≡ suc (prefix_len is_blank xs) = omega arith in rw (b, one) (not_blank_after xs (omega arith)))
+      | inl b ↦
+          (let shorter : 1 + prefix_len is_blank xs < suc (length xs) = rw b at h in
+          let one : 1 + prefix_len is_blank xs ≡ suc (prefix_len is_blank xs) = omega arith in
+          rw (b, one) (not_blank_after xs (omega arith)))
       | inr b ↦ rw (b, b) refl
     ]
 
@@ -157,12 +172,17 @@ after_token [] = refl
 after_token (x ∷ xs) =
     elim (true_or_false (is_blank x)) [
       | inl b ↦ rw (b) (sym (tokens_of-skip x xs b))
-      | inr b ↦ (let one : 1 + position_or_len is_blank xs ≡ suc (position_or_len is_blank xs) = omega arith in let two : 1 + position_or_len is_blank xs + 1 ≡ suc (position_or_len is_blank xs + 1) = omega arith in rw (b, two, one) (after_token xs))
+      | inr b ↦
+          (let one : 1 + position_or_len is_blank xs ≡ suc (position_or_len is_blank xs) = omega arith in
+          let two : 1 + position_or_len is_blank xs + 1 ≡ suc (position_or_len is_blank xs + 1) = omega arith in
+          rw (b, two, one) (after_token xs))
     ]
 
-pub tokens_of-front : (xs : List ℕ) → 0 < length xs → is_blank (get_or xs 0 0) ≡ false → tokens_of xs ≡ take (position_or_len is_blank xs) xs ∷ tokens_of (drop (position_or_len is_blank xs) xs)
+pub tokens_of-front : (xs : List ℕ) → 0 < length xs → is_blank (get_or xs 0 0) ≡ false
+    → tokens_of xs ≡ take (position_or_len is_blank xs) xs ∷ tokens_of (drop (position_or_len is_blank xs) xs)
 tokens_of-front [] lt b = absurd (omega arith)
-tokens_of-front (x ∷ xs) lt b = tokens_of-cut x xs b ∙ ap (λ (ts : List (List ℕ)). take (position_or_len is_blank (x ∷ xs)) (x ∷ xs) ∷ ts) (after_token (x ∷ xs))
+tokens_of-front (x ∷ xs) lt b =
+    tokens_of-cut x xs b ∙ ap (λ (ts : List (List ℕ)). take (position_or_len is_blank (x ∷ xs)) (x ∷ xs) ∷ ts) (after_token (x ∷ xs))
 
 pub tokens_of-empty : (xs : List ℕ) → length xs ≡ 0 → tokens_of xs ≡ []
 tokens_of-empty [] e = tokens_of-nil
@@ -170,11 +190,13 @@ tokens_of-empty (x ∷ xs) e = absurd (omega arith)
 
 -- ---- what the cuts of the code give
 
-module _ (bs front back : List ℕ) (k : ℕ) (filled : 0 < length bs) (at_feed : k ≡ position_or_len is_feed bs) (front_is : front ≡ take k bs) (back_is : back ≡ drop k bs) where
+module _ (bs front back : List ℕ) (k : ℕ) (filled : 0 < length bs)
+    (at_feed : k ≡ position_or_len is_feed bs) (front_is : front ≡ take k bs) (back_is : back ≡ drop k bs) where
   pub last_line : length back < 1 → lines_of bs ≡ front ∷ lines_of back
   last_line none =
       let short : length bs ≤ k = omega (arith, ap length back_is, length-drop k bs) in
-      rw (front_is, back_is, drop_all k bs short) (lines_of-front bs filled ∙ rw (← at_feed) (ap (λ (l : List ℕ). take k bs ∷ lines_of l) (drop_all (k + 1) bs (omega arith))))
+      rw (front_is, back_is, drop_all k bs short)
+      (lines_of-front bs filled ∙ rw (← at_feed) (ap (λ (l : List ℕ). take k bs ∷ lines_of l) (drop_all (k + 1) bs (omega arith))))
 
   pub next_line_cut : 1 ≤ length back → lines_of bs ≡ front ∷ lines_of (take (length back - 1) (drop 1 back))
   next_line_cut some =
@@ -184,33 +206,41 @@ module _ (line front text : List ℕ) (k : ℕ) (blanks : k ≡ prefix_len is_bl
   pub no_token : length text ≡ 0 → tokens_of line ≡ []
   no_token none = sym (tokens_of-drop k line (omega arith)) ∙ rw (← text_is) (tokens_of-empty text none)
 
-  pub token_cut : 0 < length text → tokens_of line ≡ take (position_or_len is_blank text) text ∷ tokens_of (drop (position_or_len is_blank text) text)
+  pub token_cut : 0 < length text
+      → tokens_of line ≡ take (position_or_len is_blank text) text ∷ tokens_of (drop (position_or_len is_blank text) text)
   token_cut some =
       let in_line : prefix_len is_blank line < length line = omega (arith, ap length text_is, length-drop k line) in
       let begins : is_blank (get_or text 0 0) ≡ false = rw (text_is, blanks) (not_blank_after line in_line) in
       sym (tokens_of-drop k line (omega arith)) ∙ rw (← text_is) (tokens_of-front text some begins)
 
 -- with one more digit
-pub number_from-more : (n b tens digit : ℕ) (r : Option ℕ) → is_digit b ≡ true → tens ≡ n * 10 → digit ≡ b - 48 → SomeIff r (tens + digit < 2 ^ 64) (tens + digit)
+pub number_from-more : (n b tens digit : ℕ) (r : Option ℕ) → is_digit b ≡ true
+    → tens ≡ n * 10 → digit ≡ b - 48 → SomeIff r (tens + digit < 2 ^ 64) (tens + digit)
     → MatchOption r ((bs : List ℕ) → number_from n (b ∷ bs) ≡ None) (λ m. (bs : List ℕ) → number_from n (b ∷ bs) ≡ number_from m bs)
-number_from-more n b tens digit (Some m) h t d fits = λ bs. number_from-digit n b bs h ∙ ap (λ (k : ℕ). number_from k bs) (let e : 10 * n + (b - 48) ≡ m = omega (arith, fits.1) in e)
-number_from-more n b tens digit None h t d fits = λ bs. number_from-overflow n b bs h (⊎_elim (λ low. absurd (fits (omega arith))) (λ high. high) (order (10 * n + (b - 48)) (2 ^ 64)))
+number_from-more n b tens digit (Some m) h t d fits =
+    λ bs. number_from-digit n b bs h ∙ ap (λ (k : ℕ). number_from k bs) (let e : 10 * n + (b - 48) ≡ m = omega (arith, fits.1) in e)
+number_from-more n b tens digit None h t d fits =
+    λ bs. number_from-overflow n b bs h (⊎_elim (λ low. absurd (fits (omega arith))) (λ high. high) (order (10 * n + (b - 48)) (2 ^ 64)))
 
 pub is_digit-is : (b : ℕ) → is_ascii_digit b ≡ is_digit b
 is_digit-is b = refl
 
 -- ---- signed numbers
 
-pub and_then-value : {A B : Type 0} (f : A → Option B) (o : Option A) (r : Option B) → MatchOption o (r ≡ None) (λ x. r ≡ f x) → r ≡ option_and_then f o
+pub and_then-value : {A B : Type 0} (f : A → Option B) (o : Option A) (r : Option B)
+    → MatchOption o (r ≡ None) (λ x. r ≡ f x) → r ≡ option_and_then f o
 and_then-value f None r none = none
 and_then-value f (Some x) r some = some
 
-pub signed_of-minus : (token digits : List ℕ) → pointwise eqb (take 1 token) (45 ∷ []) ≡ true → digits ≡ drop 1 token → signed_of token ≡ option_and_then negative_of (number_of digits)
+pub signed_of-minus : (token digits : List ℕ) → pointwise eqb (take 1 token) (45 ∷ []) ≡ true
+    → digits ≡ drop 1 token → signed_of token ≡ option_and_then negative_of (number_of digits)
 unfolding signed_of
 signed_of-minus [] digits minus rest = cc
 signed_of-minus (b ∷ bs) digits minus rest = let is : eqb b 45 ≡ true = (and_parts (eqb b 45) true minus).0 in rw (is, rest) refl
 
-pub signed_of-plain : (token : List ℕ) → pointwise eqb (take 1 token) (45 ∷ []) ≡ false → signed_of token ≡ option_and_then positive_of (number_of token)
+pub signed_of-plain : (token : List ℕ) → pointwise eqb (take 1 token) (45 ∷ []) ≡ false
+    → signed_of token ≡ option_and_then positive_of (number_of token)
 unfolding signed_of number_of
 signed_of-plain [] minus = refl
-signed_of-plain (b ∷ bs) minus = elim (true_or_false (eqb b 45)) [ inl is ↦ (let not_so : true ≡ false = rw is at minus in cc) | inr is ↦ rw is refl ]
+signed_of-plain (b ∷ bs) minus =
+    elim (true_or_false (eqb b 45)) [ inl is ↦ (let not_so : true ≡ false = rw is at minus in cc) | inr is ↦ rw is refl ]

@@ -1,5 +1,6 @@
 -- Patterns and pairs: what pairs name, and which rows are their pattern.
-use Rattle.std.proofs.Common.{◌≡◌, ℕ, zero, suc, ◌+◌, ◌≤◌, inl, inr, Bool, true, false, not, ◌||◌, ◌&&◌, eqb, List, [], ◌∷◌, length, drop, refl, sym, ap, ◌∙◌, arith, All, IsPermutation, length-drop}
+use Rattle.std.proofs.Common.{◌≡◌, ℕ, zero, suc, ◌+◌, ◌≤◌, inl, inr, Bool, true, false, not, ◌||◌, ◌&&◌, eqb, List}
+use Rattle.std.proofs.Common.{[], ◌∷◌, length, drop, refl, sym, ap, ◌∙◌, arith, All, IsPermutation, length-drop}
 use Rattle.std.specs.List.{list_any}
 use Rattle.std.specs.List.Sorted.{IsStrictlyIncreasing}
 use Rattle.std.proofs.lemmas.Bool.{eq-eqb, cases_Bool, eqb-true, and_parts, or_cases, false_from_ne_true}
@@ -46,11 +47,15 @@ BothWithin order a b = ((1 ≤ a) × (a ≤ order)) × ((1 ≤ b) × (b ≤ orde
 one_within : (order a b : ℕ) (pair : ℕ × ℕ) → IsPairWithin order pair → names a b pair ≡ true → BothWithin order a b
 one_within order a b pair within named =
     elim (or_cases (eqb pair.0 a && eqb pair.1 b) (eqb pair.0 b && eqb pair.1 a) named) [
-      | inl straight ↦ (let p = and_parts (eqb pair.0 a) (eqb pair.1 b) straight in rw (← eqb-true pair.0 a p.0, ← eqb-true pair.1 b p.1) within)
-      | inr crossed ↦ (let p = and_parts (eqb pair.0 b) (eqb pair.1 a) crossed in rw (← eqb-true pair.0 b p.0, ← eqb-true pair.1 a p.1) (within.1, within.0))
+      | inl straight ↦
+          (let p = and_parts (eqb pair.0 a) (eqb pair.1 b) straight in rw (← eqb-true pair.0 a p.0, ← eqb-true pair.1 b p.1) within)
+      | inr crossed ↦
+          (let p = and_parts (eqb pair.0 b) (eqb pair.1 a) crossed in
+          rw (← eqb-true pair.0 b p.0, ← eqb-true pair.1 a p.1) (within.1, within.0))
     ]
 
-any_within : (order : ℕ) (pairs : List (ℕ × ℕ)) (a b : ℕ) → All (IsPairWithin order) pairs → list_any (names a b) pairs ≡ true → BothWithin order a b
+any_within : (order : ℕ) (pairs : List (ℕ × ℕ)) (a b : ℕ) → All (IsPairWithin order) pairs
+    → list_any (names a b) pairs ≡ true → BothWithin order a b
 any_within order [] a b within named = absurd cc
 any_within order (pair ∷ pairs) a b within named =
     elim (or_cases (names a b pair) (list_any (names a b) pairs) named) [
@@ -58,8 +63,10 @@ any_within order (pair ∷ pairs) a b within named =
       | inr later ↦ any_within order pairs a b (All-tail (IsPairWithin order) pair pairs within) later
     ]
 
-pub named_within : (order : ℕ) (pairs : List (ℕ × ℕ)) (a b : ℕ) → All (IsPairWithin order) pairs → are_named pairs a b ≡ true → BothWithin order a b
-named_within order pairs a b within named = any_within order pairs a b within (and_parts (not (eqb a b)) (list_any (names a b) pairs) named).1
+pub named_within : (order : ℕ) (pairs : List (ℕ × ℕ)) (a b : ℕ)
+    → All (IsPairWithin order) pairs → are_named pairs a b ≡ true → BothWithin order a b
+named_within order pairs a b within named =
+    any_within order pairs a b within (and_parts (not (eqb a b)) (list_any (names a b) pairs) named).1
 
 pub below_from_within : (order : ℕ) (pairs : List (ℕ × ℕ)) → All (IsPairWithin order) pairs → All (IsPairBelow (order + 1)) pairs
 below_from_within order pairs within = λ k d lt. let w = within k d lt in (omega (arith, w.0.1), omega (arith, w.1.1))
@@ -84,8 +91,10 @@ partners_named (pair ∷ pairs) v u =
 
 -- ---- which rows are the pattern of pairs
 
-pub is_pattern_of : (order : ℕ) (pairs : List (ℕ × ℕ)) (rows : List (List ℕ)) → (1 ≤ order) × (order ≤ most_order) → All (IsPairWithin order) pairs → length rows ≡ order
-    → ((v : ℕ) → IsStrictlyIncreasing (neighbours_of rows v)) → ((a b : ℕ) → is_joined rows a b ≡ are_named pairs a b) → IsPatternOf order pairs rows
+pub is_pattern_of : (order : ℕ) (pairs : List (ℕ × ℕ)) (rows : List (List ℕ))
+    → (1 ≤ order) × (order ≤ most_order) → All (IsPairWithin order) pairs → length rows ≡ order
+    → ((v : ℕ) → IsStrictlyIncreasing (neighbours_of rows v))
+    → ((a b : ℕ) → is_joined rows a b ≡ are_named pairs a b) → IsPatternOf order pairs rows
 is_pattern_of order pairs rows few within order_is rising joined = record {
   order_is = order_is;
   pattern = record {
@@ -103,7 +112,8 @@ is_pattern_of order pairs rows few within order_is rising joined = record {
 pub neighbours_in : (table : Rooms) (i : ℕ) → neighbours_of (drop 1 table.lists) (suc i) ≡ list_at table (suc i)
 neighbours_in table i = let one : 1 + i ≡ suc i = omega arith in get_or_after_one table.lists i [] ∙ ap (list_at table) one
 
-pub sorted_pattern : (order : ℕ) (pairs moved : List (ℕ × ℕ)) (table : Rooms) → (1 ≤ order) × (order ≤ most_order) → All (IsPairWithin order) pairs
+pub sorted_pattern : (order : ℕ) (pairs moved : List (ℕ × ℕ)) (table : Rooms)
+    → (1 ≤ order) × (order ≤ most_order) → All (IsPairWithin order) pairs
     → IsPermutation pairs moved → length table.lists ≡ order + 1 → ((v : ℕ) → IsStrictlyIncreasing (list_at table v))
     → ((v x : ℕ) → has (list_at table v) x ≡ has (partners moved v) x) → IsPatternOf order pairs (drop 1 table.lists)
 sorted_pattern order pairs moved table few within is_moved count sorted same =
@@ -116,6 +126,8 @@ sorted_pattern order pairs moved table few within is_moved count sorted same =
       moved_named a b = ap (λ (named : Bool). not (eqb a b) && named) (sym (list_any-IsPermutation (names a b) pairs moved is_moved))
 
       joined : (a b : ℕ) → is_joined (drop 1 table.lists) a b ≡ are_named pairs a b
-      joined zero b = sym (false_from_ne_true (are_named pairs zero b) (λ named. absurd (let w = named_within order pairs zero b within named in let some = w.0.0 in omega arith)))
+      joined zero b =
+          sym (false_from_ne_true (are_named pairs zero b)
+          (λ named. absurd (let w = named_within order pairs zero b within named in let some = w.0.0 in omega arith)))
       joined (suc i) b =
           ap (λ (l : List ℕ). has l b) (neighbours_in table i) ∙ same (suc i) b ∙ partners_named moved (suc i) b ∙ moved_named (suc i) b

@@ -1,11 +1,13 @@
 -- Pairs have one pattern, and which it is.
-use Rattle.std.proofs.Common.{◌≡◌, ◌≢◌, ℕ, zero, suc, ◌+◌, ◌-◌, ◌<◌, ◌≤◌, inl, inr, Bool, true, false, ◌&&◌, List, [], ◌∷◌, length, get_or, refl, sym, ap, subst, ◌∙◌, arith, All}
+use Rattle.std.proofs.Common.{◌≡◌, ◌≢◌, ℕ, zero, suc, ◌+◌, ◌-◌, ◌<◌, ◌≤◌, inl, inr, Bool, true, false, ◌&&◌}
+use Rattle.std.proofs.Common.{List, [], ◌∷◌, length, get_or, refl, sym, ap, subst, ◌∙◌, arith, All}
 use Rattle.std.specs.List.{filter, range_with_len}
 use Rattle.std.specs.List.Sorted.{IsStrictlyIncreasing}
 use Rattle.std.proofs.lemmas.Bool.{cases_eq, cases_lt, cases_Bool, eq-eqb, ne_eqb, false_from_ne_true, both_ways, and_right}
 use Rattle.std.proofs.lemmas.List.{get_or_past, get_or_default, same_lists}
 use Rattle.std.proofs.lemmas.List.Kept.{IsStrictlyIncreasing-filter}
-use Rattle.std.proofs.lemmas.List.FromFn.{length-range_with_len, get_or-range_with_len, length-map-range_with_len, get_or-map-range_with_len}
+use Rattle.std.proofs.lemmas.List.FromFn.{length-range_with_len, get_or-range_with_len, length-map-range_with_len}
+use Rattle.std.proofs.lemmas.List.FromFn.{get_or-map-range_with_len}
 use Rattle.limits.specs.Limits.{most_order}
 use Rattle.patterns.specs.Pattern.{neighbours_of, has, is_joined, are_named, IsPairWithin, IsPatternOf}
 use Rattle.patterns.specs.Plain.{plain_rows}
@@ -31,7 +33,8 @@ in_tail x xs y other = rw (ne_eqb x y other) refl
 pub head_in : (x : ℕ) (xs : List ℕ) → has (x ∷ xs) x ≡ true
 head_in x xs = rw (eq-eqb x x refl) refl
 
-pub same_heads : (x y : ℕ) (xs ys : List ℕ) → IsStrictlyIncreasing (x ∷ xs) → IsStrictlyIncreasing (y ∷ ys) → ((z : ℕ) → has (x ∷ xs) z ≡ has (y ∷ ys) z) → x ≡ y
+pub same_heads : (x y : ℕ) (xs ys : List ℕ) → IsStrictlyIncreasing (x ∷ xs)
+    → IsStrictlyIncreasing (y ∷ ys) → ((z : ℕ) → has (x ∷ xs) z ≡ has (y ∷ ys) z) → x ≡ y
 same_heads x y xs ys one two same =
     elim (cases_eq x y) [
       | inl e ↦ e
@@ -59,13 +62,17 @@ rising_same (x ∷ xs) (y ∷ ys) one two same =
 
 -- ---- patterns of the same pairs are one
 
-pub same_patterns : (order : ℕ) (pairs : List (ℕ × ℕ)) (one two : List (List ℕ)) → IsPatternOf order pairs one → IsPatternOf order pairs two → one ≡ two
+pub same_patterns : (order : ℕ) (pairs : List (ℕ × ℕ)) (one two : List (List ℕ))
+    → IsPatternOf order pairs one → IsPatternOf order pairs two → one ≡ two
 same_patterns order pairs one two first second =
     same_lists one two (first.order_is ∙ sym second.order_is) (λ k d lt.
     let lt_two : k < length two = omega (arith, first.order_is, second.order_is) in
     let row_one : get_or one k d ≡ get_or one k [] = default one k d lt in
     let row_two : get_or two k d ≡ get_or two k [] = default two k d lt_two in
-    row_one ∙ rising_same (get_or one k []) (get_or two k []) (first.pattern.rising (suc k)) (second.pattern.rising (suc k)) (λ z. first.joined (suc k) z ∙ sym (second.joined (suc k) z)) ∙ sym row_two) where
+    row_one
+    ∙ rising_same (get_or one k []) (get_or two k []) (first.pattern.rising (suc k))
+    (second.pattern.rising (suc k)) (λ z. first.joined (suc k) z ∙ sym (second.joined (suc k) z))
+    ∙ sym row_two) where
       default : (xs : List (List ℕ)) (k : ℕ) (d : List ℕ) → k < length xs → get_or xs k d ≡ get_or xs k []
       default xs k d lt = get_or_default xs k d [] lt
 
@@ -74,7 +81,8 @@ same_patterns order pairs one two first second =
 pub in_range : (a n b : ℕ) → a ≤ b → b < a + n → has (range_with_len a n) b ≡ true
 in_range a n b low high =
     let at : a + (b - a) ≡ b = omega arith in
-    subst (λ (y : ℕ). has (range_with_len a n) y ≡ true) (get_or-range_with_len a n (b - a) 0 (omega arith) ∙ at) (has_at (range_with_len a n) (b - a) (omega (arith, length-range_with_len a n)))
+    subst (λ (y : ℕ). has (range_with_len a n) y ≡ true) (get_or-range_with_len a n (b - a) 0 (omega arith) ∙ at)
+    (has_at (range_with_len a n) (b - a) (omega (arith, length-range_with_len a n)))
 
 has_filter : (p : ℕ → Bool) (xs : List ℕ) (b : ℕ) → has (filter p xs) b ≡ (p b && has xs b)
 has_filter p [] b = sym (and_right (p b) false refl)
@@ -95,7 +103,8 @@ module _ (order : ℕ) (pairs : List (ℕ × ℕ)) (within : All (IsPairWithin o
   row_is i lt = get_or-map-range_with_len (λ v. filter (are_named pairs v) (range_with_len 1 order)) 1 order i (suc i) [] lt (omega arith)
 
   row_none : (i : ℕ) → order ≤ i → neighbours_of (plain_rows order pairs) (suc i) ≡ []
-  row_none i past = get_or_past (plain_rows order pairs) i [] (omega (arith, length-map-range_with_len (λ v. filter (are_named pairs v) (range_with_len 1 order)) 1 order))
+  row_none i past = get_or_past (plain_rows order pairs) i []
+      (omega (arith, length-map-range_with_len (λ v. filter (are_named pairs v) (range_with_len 1 order)) 1 order))
 
   outside : (a b : ℕ) → (((1 ≤ a) × (a ≤ order)) × ((1 ≤ b) × (b ≤ order)) → ⊥) → are_named pairs a b ≡ false
   outside a b out = false_from_ne_true (are_named pairs a b) (λ named. out (named_within order pairs a b within named))
@@ -109,7 +118,8 @@ module _ (order : ℕ) (pairs : List (ℕ × ℕ)) (within : All (IsPairWithin o
 
   kept : (i b : ℕ) → (are_named pairs (suc i) b && has (range_with_len 1 order) b) ≡ are_named pairs (suc i) b
   kept i b = elim (cases_Bool (are_named pairs (suc i) b)) [
-    | inl holds ↦ (let w = (named_within order pairs (suc i) b within holds).1 in rw (holds, in_range 1 order b w.0 (omega (arith, w.1))) refl)
+    | inl holds ↦
+        (let w = (named_within order pairs (suc i) b within holds).1 in rw (holds, in_range 1 order b w.0 (omega (arith, w.1))) refl)
     | inr fails ↦ rw fails refl
   ]
 
@@ -122,4 +132,5 @@ module _ (order : ℕ) (pairs : List (ℕ × ℕ)) (within : All (IsPairWithin o
 
   pub plain_pattern : 1 ≤ order → order ≤ most_order → IsPatternOf order pairs (plain_rows order pairs)
   plain_pattern some small =
-      is_pattern_of order pairs (plain_rows order pairs) (some, small) within (length-map-range_with_len (λ v. filter (are_named pairs v) (range_with_len 1 order)) 1 order) row_rising row_joined
+      is_pattern_of order pairs (plain_rows order pairs) (some, small) within
+      (length-map-range_with_len (λ v. filter (are_named pairs v) (range_with_len 1 order)) 1 order) row_rising row_joined

@@ -1,5 +1,6 @@
 -- The order 1, 2, .., n: it is a permutation, and each vertex stands at its own place.
-use Rattle.std.proofs.Common.{◌≡◌, ℕ, zero, suc, ◌+◌, ◌<◌, ◌≤◌, ◌^◌, eqb, leb, List, [], ◌∷◌, ◌++◌, length, get_or, inl, inr, refl, sym, ap, ◌∙◌, arith}
+use Rattle.std.proofs.Common.{◌≡◌, ℕ, zero, suc, ◌+◌, ◌<◌, ◌≤◌, ◌^◌, eqb, leb, List, [], ◌∷◌}
+use Rattle.std.proofs.Common.{◌++◌, length, get_or, inl, inr, refl, sym, ap, ◌∙◌, arith}
 use Rattle.std.specs.List.{range_with_len}
 use Rattle.std.proofs.lemmas.Bool.{cases_Bool, leb-true, leb-false, ne_eqb}
 use Rattle.std.proofs.lemmas.List.Sums.{sum_by_push}
@@ -12,7 +13,8 @@ use Rattle.permutations.proofs.PermLemmas.{bit, part-none, part-push, perm_from_
 
 range_push : (a k : ℕ) → range_with_len a (suc k) ≡ range_with_len a k ++ (a + k) ∷ []
 range_push a zero = ap (λ (x : ℕ). x ∷ []) (omega arith)
-range_push a (suc k) = ap (λ (xs : List ℕ). a ∷ xs) (range_push (a + 1) k ∙ ap (λ (x : ℕ). range_with_len (a + 1) k ++ x ∷ []) (omega arith))
+range_push a (suc k) =
+    ap (λ (xs : List ℕ). a ∷ xs) (range_push (a + 1) k ∙ ap (λ (x : ℕ). range_with_len (a + 1) k ++ x ∷ []) (omega arith))
 
 pub range_count : (k : ℕ) → range_with_len 0 k ++ k ∷ [] ≡ range_with_len 0 (suc k)
 range_count k = ap (λ (x : ℕ). range_with_len 0 k ++ x ∷ []) (omega arith) ∙ sym (range_push 0 k)
@@ -40,7 +42,8 @@ vertex_identity n zero le = refl
 vertex_identity n (suc i) le = get_or-range_with_len 1 n i 0 (omega arith) ∙ omega arith
 
 place_identity : (n v : ℕ) → v ≤ n → place_of (range_with_len 1 n) v ≡ v
-place_identity n v le = ap (place_of (range_with_len 1 n)) (sym (vertex_identity n v le)) ∙ place_of_vertex n (range_with_len 1 n) (perm_identity n) v le
+place_identity n v le =
+    ap (place_of (range_with_len 1 n)) (sym (vertex_identity n v le)) ∙ place_of_vertex n (range_with_len 1 n) (perm_identity n) v le
 
 inverse_identity : (n v : ℕ) → get_or (range_with_len 0 (suc n)) v 0 ≡ place_of (range_with_len 1 n) v
 inverse_identity n v =
@@ -48,11 +51,13 @@ inverse_identity n v =
       | inl e ↦ (let le = leb-true v n e in get_or-range_with_len 0 (suc n) v 0 (omega arith) ∙ omega (arith, place_identity n v le))
       | inr e ↦ (
           let lt = leb-false v n e in
-          get_or-eq_default (range_with_len 0 (suc n)) 0 (omega (arith, length-range_with_len 0 (suc n))) ∙ sym (place-none (range_with_len 1 n) v ((part-range n n (omega arith)).1 v lt))
+          get_or-eq_default (range_with_len 0 (suc n)) 0 (omega (arith, length-range_with_len 0 (suc n)))
+          ∙ sym (place-none (range_with_len 1 n) v ((part-range n n (omega arith)).1 v lt))
           )
     ]
 
-pub tables_identity : (n : ℕ) (vertices places : List ℕ) → n < 2 ^ 32 → vertices ≡ range_with_len 0 (suc n) → places ≡ range_with_len 0 (suc n) → ArePermTables vertices places
+pub tables_identity : (n : ℕ) (vertices places : List ℕ) → n < 2 ^ 32
+    → vertices ≡ range_with_len 0 (suc n) → places ≡ range_with_len 0 (suc n) → ArePermTables vertices places
 tables_identity n vertices places small e f =
     let len = length-range_with_len 1 n in
     let long = length-range_with_len 0 (suc n) in

@@ -1,5 +1,6 @@
 -- The places of an order of all columns, and the columns at its places, undo each other.
-use Rattle.std.proofs.Common.{◌≡◌, ◌≢◌, ℕ, zero, suc, ◌+◌, ◌-◌, ◌<◌, ◌≤◌, All, List, ◌∷◌, length, get_or, true, false, refl, sym, ap, subst, ◌∙◌, arith}
+use Rattle.std.proofs.Common.{◌≡◌, ◌≢◌, ℕ, zero, suc, ◌+◌, ◌-◌, ◌<◌, ◌≤◌, All, List, ◌∷◌, length}
+use Rattle.std.proofs.Common.{get_or, true, false, refl, sym, ap, subst, ◌∙◌, arith}
 use Rattle.std.specs.List.{list_any}
 use Rattle.std.proofs.Math.Dec.{eqb}
 use Rattle.std.proofs.lemmas.Bool.{eqb-true, ne_eqb}
@@ -13,7 +14,8 @@ use Rattle.lists.specs.Numbers.{IsNumberFrom, from_one, number_at}
 use Rattle.permutations.specs.Order.{order_given}
 use Rattle.permutations.specs.PlaceTables.{ArePlaced}
 
-pub all_numbers : (base n : ℕ) (numbers places : List ℕ) → length numbers ≡ n → ArePlaced base n numbers places n → All (IsNumberFrom base n) numbers
+pub all_numbers : (base n : ℕ) (numbers places : List ℕ) → length numbers ≡ n
+    → ArePlaced base n numbers places n → All (IsNumberFrom base n) numbers
 all_numbers base n numbers places len placed =
     All-from_get_or (IsNumberFrom base n) numbers 0 (λ i inside.
     let at : i + 1 - 1 ≡ i = omega arith in

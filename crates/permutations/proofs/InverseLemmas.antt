@@ -1,5 +1,6 @@
 -- Two tables that undo each other hold a permutation.
-use Rattle.std.proofs.Common.{◌≡◌, ◌≢◌, ℕ, zero, suc, ◌<◌, ◌≤◌, ◌^◌, List, [], ◌∷◌, length, get_or, inl, inr, refl, sym, ap, subst, ◌∙◌, arith}
+use Rattle.std.proofs.Common.{◌≡◌, ◌≢◌, ℕ, zero, suc, ◌<◌, ◌≤◌, ◌^◌, List, [], ◌∷◌, length}
+use Rattle.std.proofs.Common.{get_or, inl, inr, refl, sym, ap, subst, ◌∙◌, arith}
 use Rattle.std.proofs.lemmas.Bool.{cases_eq, cases_lt}
 use Rattle.std.proofs.lemmas.List.Elements.{All-from_get_or}
 use Rattle.std.proofs.lemmas.List.{get_or_past}
@@ -54,7 +55,8 @@ module _ (order places : List ℕ) (inverse : AreInverse (0 ∷ order) places) w
 
   part : IsPart (length order) order
   part = record {
-    vertices = All-from_get_or (IsVertex (length order)) order 0 (λ i lt. let some = some_at i lt in let small = (inverse.vertex (suc i) (omega arith)).0 in (omega arith, omega arith));
+    vertices = All-from_get_or (IsVertex (length order)) order 0
+        (λ i lt. let some = some_at i lt in let small = (inverse.vertex (suc i) (omega arith)).0 in (omega arith, omega arith));
     once = λ v. once order v different;
   }
 
@@ -71,7 +73,8 @@ module _ (order places : List ℕ) (inverse : AreInverse (0 ∷ order) places) w
         | inl lt ↦ (
             let there = inverse.place v lt in
             let at = at_place (get_or places v 0) ∙ there.1 in
-            sym (place_of_vertex (length order) order perm_of_tables (get_or places v 0) (let small = there.0 in omega arith)) ∙ ap (place_of order) at
+            sym (place_of_vertex (length order) order perm_of_tables (get_or places v 0) (let small = there.0 in omega arith))
+            ∙ ap (place_of order) at
             )
         | inr le ↦ get_or_past places v 0 (let same = inverse.same_length in omega arith) ∙ sym (beyond le)
       ]
@@ -95,7 +98,11 @@ inverse_tables (x ∷ xs) places inverse small =
     let e : x ≡ 0 = inverse.unused in
     let here : AreInverse (0 ∷ xs) places = subst (λ y. AreInverse (y ∷ xs) places) e inverse in
     record {
-      tables = record { unused = ap (λ y. y ∷ xs) e; few = let same = inverse.same_length in omega arith; inverse = places_of_tables xs places here };
+      tables = record {
+        unused = ap (λ y. y ∷ xs) e;
+        few = let same = inverse.same_length in omega arith;
+        inverse = places_of_tables xs places here;
+      };
       perm = perm_of_tables xs places here;
       small = omega arith;
     }

@@ -1,5 +1,6 @@
 -- What makes a list a permutation: n vertices of n, none twice.
-use Rattle.std.proofs.Common.{◌≡◌, ℕ, zero, suc, ◌+◌, ◌<◌, ◌≤◌, Bool, cond, eqb, List, [], ◌∷◌, ◌++◌, length, take, drop, get_or, inl, inr, refl, ap, subst, ◌∙◌, arith}
+use Rattle.std.proofs.Common.{◌≡◌, ℕ, zero, suc, ◌+◌, ◌<◌, ◌≤◌, Bool, cond, eqb, List, [], ◌∷◌, ◌++◌}
+use Rattle.std.proofs.Common.{length, take, drop, get_or, inl, inr, refl, ap, subst, ◌∙◌, arith}
 use Rattle.std.specs.List.{All}
 use Rattle.std.proofs.lemmas.Bool.{cases_eq, eq-eqb, ne_eqb}
 use Rattle.std.proofs.lemmas.List.Elements.{All-nil, All-head, All-tail, All-push}
@@ -24,7 +25,9 @@ part-push n numbers v part vertex fresh = record {
       let more = sum_by_push (λ x. bit (eqb x w)) numbers v in
       let most = part.once w in
       elim (cases_eq v w) [
-        | inl same ↦ (let one : bit (eqb v w) ≡ 1 = ap bit (eq-eqb v w same) in let none : times numbers w ≡ 0 = subst (λ x. times numbers x ≡ 0) same fresh in omega (arith, more, one, none))
+        | inl same ↦
+            (let one : bit (eqb v w) ≡ 1 = ap bit (eq-eqb v w same) in
+            let none : times numbers w ≡ 0 = subst (λ x. times numbers x ≡ 0) same fresh in omega (arith, more, one, none))
         | inr other ↦ (let none : bit (eqb v w) ≡ 0 = ap bit (ne_eqb v w other) in omega (arith, more, none, most))
       ];
 }
@@ -134,7 +137,8 @@ fresh_at n order perm k lt =
     let once = perm.once v (perm.vertices k 0 (omega arith)) in
     let parts = sum_by-take-drop (λ x. bit (eqb x v)) order k in
     let at : get_or (drop k order) 0 0 ≡ v = get_or-drop k order 0 0 ∙ ap (λ i. get_or order i 0) plus_zero in
-    let here : 0 < times (drop k order) v = subst (λ x. 0 < times (drop k order) x) at (times-at (drop k order) 0 (omega (arith, length-drop k order))) in
+    let here : 0 < times (drop k order) v =
+    subst (λ x. 0 < times (drop k order) x) at (times-at (drop k order) 0 (omega (arith, length-drop k order))) in
     omega (arith, once, parts, here)
   where
     plus_zero : k + 0 ≡ k

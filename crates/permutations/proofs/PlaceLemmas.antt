@@ -1,5 +1,6 @@
 -- The place of a vertex in a list: from the front, at the end, and as the inverse of the list.
-use Rattle.std.proofs.Common.{◌≡◌, ◌≢◌, ℕ, zero, suc, ◌+◌, ◌<◌, ◌≤◌, true, false, not, cond, eqb, ltb, List, [], ◌∷◌, ◌++◌, inl, inr, length, get_or, Some, None, refl, sym, ap, ◌∙◌, add-one, arith}
+use Rattle.std.proofs.Common.{◌≡◌, ◌≢◌, ℕ, zero, suc, ◌+◌, ◌<◌, ◌≤◌, true, false, not, cond, eqb, ltb, List, [], ◌∷◌}
+use Rattle.std.proofs.Common.{◌++◌, inl, inr, length, get_or, Some, None, refl, sym, ap, ◌∙◌, add-one, arith}
 use Rattle.std.proofs.lemmas.Bool.{cases_Bool, cases_eq, eq-eqb, ne_eqb, lt-ltb, le-ltb, ltb-true, ltb-false}
 use Rattle.std.proofs.lemmas.List.Sums.{sum_by-cons}
 use Rattle.std.specs.List.{position_or_len}
@@ -12,17 +13,20 @@ further : ℕ → ℕ
 further zero = zero
 further (suc i) = suc (suc i)
 
-further-after : (m n : ℕ) → place_after (cond (ltb (1 + m) (suc n)) (Some (1 + m)) None) ≡ further (place_after (cond (ltb m n) (Some m) None))
+further-after : (m n : ℕ)
+    → place_after (cond (ltb (1 + m) (suc n)) (Some (1 + m)) None) ≡ further (place_after (cond (ltb m n) (Some m) None))
 unfolding further
 further-after m n =
     elim (cases_Bool (ltb m n)) [
-      | inl e ↦ rw (e, lt-ltb (1 + m) (suc n) (omega (arith, ltb-true m n e))) (let same : 1 + m + 1 ≡ further (m + 1) = rw (add-one m) (omega arith) in same)
+      | inl e ↦ rw (e, lt-ltb (1 + m) (suc n) (omega (arith, ltb-true m n e)))
+          (let same : 1 + m + 1 ≡ further (m + 1) = rw (add-one m) (omega arith) in same)
       | inr e ↦ rw (e, le-ltb (1 + m) (suc n) (omega (arith, ltb-false m n e))) refl
     ]
 
 place-cons : (x v : ℕ) (xs : List ℕ) → place_of (x ∷ xs) v ≡ cond (eqb x v) 1 (further (place_of xs v))
 place-cons x v xs =
-    elim (eqb x v) as (λ b. place_after (cond (ltb (cond (not b) (1 + position_or_len (λ y. eqb y v) xs) 0) (suc (length xs))) (Some (cond (not b) (1 + position_or_len (λ y. eqb y v) xs) 0)) None) ≡ cond b 1 (further (place_of xs v))) [
+    elim (eqb x v) as (λ b. place_after (cond (ltb (cond (not b) (1 + position_or_len (λ y. eqb y v) xs) 0) (suc (length xs)))
+    (Some (cond (not b) (1 + position_or_len (λ y. eqb y v) xs) 0)) None) ≡ cond b 1 (further (place_of xs v))) [
       | true ↦ rw (lt-ltb 0 (suc (length xs)) (omega arith)) refl
       | false ↦ further-after (position_or_len (λ y. eqb y v) xs) (length xs)
     ]
@@ -121,7 +125,8 @@ place-at (x ∷ xs) zero lt once = place-here x x xs refl
 place-at (x ∷ xs) (suc i) lt once =
     elim (cases_eq x (get_or xs i 0)) [
       | inl e ↦ absurd (omega (arith, times-here x (get_or xs i 0) xs e, times-at xs i (omega arith)))
-      | inr e ↦ place-beyond x (get_or xs i 0) xs e ∙ ap further (place-at xs i (omega arith) (sym (times-beyond x (get_or xs i 0) xs e) ∙ once))
+      | inr e ↦ place-beyond x (get_or xs i 0) xs e
+          ∙ ap further (place-at xs i (omega arith) (sym (times-beyond x (get_or xs i 0) xs e) ∙ once))
     ]
 
 -- ---- one vertex more at the end
@@ -132,7 +137,8 @@ place-push_same [] v none = place-here v v [] refl
 place-push_same (x ∷ xs) v none =
     elim (cases_eq x v) [
       | inl e ↦ absurd (omega (arith, place-here x v xs e))
-      | inr e ↦ place-beyond x v (xs ++ v ∷ []) e ∙ ap further (place-push_same xs v (further-none (place_of xs v) (sym (place-beyond x v xs e) ∙ none)))
+      | inr e ↦ place-beyond x v (xs ++ v ∷ []) e
+          ∙ ap further (place-push_same xs v (further-none (place_of xs v) (sym (place-beyond x v xs e) ∙ none)))
     ]
 
 pub place-push_other : (xs : List ℕ) (y v : ℕ) → y ≢ v → place_of (xs ++ y ∷ []) v ≡ place_of xs v

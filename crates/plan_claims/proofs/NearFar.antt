@@ -11,7 +11,8 @@ use Rattle.cut_laws.specs.Cuts.{Cut, top_of, lowest_of, side_of, start_of}
 use Rattle.sp_cuts.specs.declared.notes.SeriesNote.{SeriesNote}
 use Rattle.plan_claims.specs.declared.wanted.Wanted.{Wanted}
 use Rattle.plan_claims.specs.Below.{LawsBelow}
-use Rattle.plan_claims.specs.Crossings.{up_of, LeadsOver, IsCrossing, far_stuck, near_stuck, near_closed, hill_above, last_stuck, turned_low, IsTurned, AreHandedOver}
+use Rattle.plan_claims.specs.Crossings.{up_of, LeadsOver, IsCrossing, far_stuck, near_stuck, near_closed}
+use Rattle.plan_claims.specs.Crossings.{hill_above, last_stuck, turned_low, IsTurned, AreHandedOver}
 use Rattle.plan_claims.specs.Wants.{Shows}
 use Rattle.plan_claims.proofs.Sides.{lowest_of_first}
 use Rattle.lists.proofs.Orders.{lt_or_le}
@@ -48,7 +49,8 @@ module _ (laws : LawsBelow) (d : Direction) (near far whole : Cut) (hill : ℕ) 
     below : w.limit ≤ top_of d whole
     below = subst (λ (c : Direction). w.limit ≤ top_of c whole) e s.below
 
-    low : w.low ≡ (if nat_lt (max (top_of d near) (max (top_of (other d) near) hill)) w.limit then min near.least (lowest_of d w.limit far) else lowest_of d w.limit near)
+    low : w.low ≡ (if nat_lt (max (top_of d near) (max (top_of (other d) near) hill)) w.limit
+        then min near.least (lowest_of d w.limit far) else lowest_of d w.limit near)
     low = subst (λ (c : Direction). w.low ≡ lowest_of c w.limit whole) e s.lowest ∙ o.low_is w.limit
 
     -- the near part's side does not pass exactly where it goes up last by as much as the limit is above where the whole is stuck: the
@@ -56,9 +58,14 @@ module _ (laws : LawsBelow) (d : Direction) (near far whole : Cut) (hill : ℕ) 
     low_near : w.low ≤ lowest_of d w.limit near
     low_near = elim (lt_or_le (max (top_of d near) (max (top_of (other d) near) hill)) w.limit) [
       | inl lt ↦
-          let y = over w.limit (top_of d near) (max (top_of (other d) near) hill) (min near.least (lowest_of d w.limit far)) (lowest_of d w.limit near) w.low low lt in
+          let y = over w.limit (top_of d near) (max (top_of (other d) near) hill)
+          (min near.least (lowest_of d w.limit far)) (lowest_of d w.limit near) w.low low lt in
           omega (arith, o.near_low w.limit (omega arith))
-      | inr le ↦ omega (arith, stuck w.limit (top_of d near) (max (top_of (other d) near) hill) (min near.least (lowest_of d w.limit far)) (lowest_of d w.limit near) w.low low le)
+      | inr le ↦ omega (
+        arith,
+        stuck w.limit (top_of d near) (max (top_of (other d) near) hill)
+            (min near.least (lowest_of d w.limit far)) (lowest_of d w.limit near) w.low low le,
+      )
     ]
 
     near_stops : w.limit - w.low ≤ n.near_up → w.limit ≤ top_of d near
@@ -69,7 +76,8 @@ module _ (laws : LawsBelow) (d : Direction) (near far whole : Cut) (hill : ℕ) 
       | inl lt ↦ lt
       | inr le ↦
           let u = x.near_up in
-          let y = stuck w.limit (top_of d near) (max (top_of (other d) near) hill) (min near.least (lowest_of d w.limit far)) (lowest_of d w.limit near) w.low low (omega arith) in
+          let y = stuck w.limit (top_of d near) (max (top_of (other d) near) hill)
+          (min near.least (lowest_of d w.limit far)) (lowest_of d w.limit near) w.low low (omega arith) in
           absurd (omega (arith, (o.near_stuck w.limit).0 le))
     ]
 
@@ -80,7 +88,8 @@ module _ (laws : LawsBelow) (d : Direction) (near far whole : Cut) (hill : ℕ) 
           near_shows = record {
             below = subst (λ (c : Direction). w.limit ≤ top_of c near) (sym e) t;
             lowest = subst (λ (c : Direction). w.low ≡ lowest_of c w.limit near) (sym e)
-                (stuck w.limit (top_of d near) (max (top_of (other d) near) hill) (min near.least (lowest_of d w.limit far)) (lowest_of d w.limit near) w.low low (omega arith));
+                (stuck w.limit (top_of d near) (max (top_of (other d) near) hill)
+                (min near.least (lowest_of d w.limit far)) (lowest_of d w.limit near) w.low low (omega arith));
           };
           far_shows = tt;
           obstacle = near_stuck e refl refl;
@@ -93,12 +102,14 @@ module _ (laws : LawsBelow) (d : Direction) (near far whole : Cut) (hill : ℕ) 
       -- what stops the way behind the near part's side
       low_least : w.limit ≤ max (top_of (other d) near) hill → w.low ≤ near.least
       low_least h =
-          let y = stuck w.limit (top_of d near) (max (top_of (other d) near) hill) (min near.least (lowest_of d w.limit far)) (lowest_of d w.limit near) w.low low (omega arith) in
+          let y = stuck w.limit (top_of d near) (max (top_of (other d) near) hill)
+          (min near.least (lowest_of d w.limit far)) (lowest_of d w.limit near) w.low low (omega arith) in
           omega (arith, y, o.near_low w.limit past_near)
 
       -- the near part's other side, which was read to its end
       turned_is : turned_low n.between_start between w ≡ lowest_of (other d) w.limit near
-      turned_is = ap (lowest w.limit n.between_start) x.between_is ∙ ap (λ (m : ℕ). lowest w.limit m (run_profile (side_of (other d) near))) x.between_start
+      turned_is = ap (lowest w.limit n.between_start) x.between_is
+          ∙ ap (λ (m : ℕ). lowest w.limit m (run_profile (side_of (other d) near))) x.between_start
 
       turned_up : last_up between ≡ up_of (other d) near
       turned_up = ap last_up x.between_is
@@ -130,14 +141,16 @@ module _ (laws : LawsBelow) (d : Direction) (near far whole : Cut) (hill : ℕ) 
       handed_hill h =
           record { near_shows = tt; far_shows = tt; obstacle = hill_above e (low_least (omega arith)) refl refl (omega arith) }
 
-      pub handed_last : IsTurned n.between_start between w None → hill < w.limit → (l : ℕ) → l ≡ (if nat_lt w.low n.near_least then w.low else lowest w.limit n.far_start beyond)
+      pub handed_last : IsTurned n.between_start between w None → hill < w.limit → (l : ℕ)
+          → l ≡ (if nat_lt w.low n.near_least then w.low else lowest w.limit n.far_start beyond)
           → AreHandedOver d near far hill w None (Some (record { dir = w.dir; limit = w.limit; low = l }))
       handed_last h h' l is =
           let t = turned_passes h in
           let top = o.top_is in
           let pn = past_near in
           let z : w.low ≡ min near.least (lowest_of d w.limit far) =
-          over w.limit (top_of d near) (max (top_of (other d) near) hill) (min near.least (lowest_of d w.limit far)) (lowest_of d w.limit near) w.low low (omega arith) in
+          over w.limit (top_of d near) (max (top_of (other d) near) hill)
+          (min near.least (lowest_of d w.limit far)) (lowest_of d w.limit near) w.low low (omega arith) in
           let le = x.least_is in
           let same : l ≡ lowest_of d w.limit far = elim (lt_or_le w.low n.near_least) [
             | inl lt ↦ is ∙ first_if w.low n.near_least w.low (lowest w.limit n.far_start beyond) lt ∙ omega arith

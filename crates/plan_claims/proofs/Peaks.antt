@@ -2,7 +2,8 @@
 use Rattle.std.proofs.Common.{◌+◌, ◌≤◌, inl, inr, ap, arith, List, map}
 use Rattle.mp_system.specs.declared.system.Task.{Task}
 use Rattle.sp_terms.specs.Places.{list_of_parts}
-use Rattle.sp_terms.specs.Term.{Term, hold, series, par, Parts, no_parts, part, Direction, forward, backward, hill_of, IsAllowed, AreAllowed}
+use Rattle.sp_terms.specs.Term.{Term, hold, series, par, Parts, no_parts, part, Direction}
+use Rattle.sp_terms.specs.Term.{forward, backward, hill_of, IsAllowed, AreAllowed}
 use Rattle.cut_laws.specs.Cuts.{Cut, par_cut, top_of, start_of}
 use Rattle.cut_laws.specs.Tops.{tops}
 use Rattle.plan_claims.specs.Below.{LawsBelow}
@@ -47,13 +48,15 @@ module _ (laws : LawsBelow) where
     series_small : Small (series a v b)
     series_small = elim (lt_or_le (cut_at b).least (cut_at a).least) [
       | inl lt ↦
-          let o = second_over laws (cut_at a) (cut_at b) 0 (hill_of a v b) (meets laws a allowed.2) (meets laws b allowed.3) after before (rises laws a allowed.2) lt in
+          let o = second_over laws (cut_at a) (cut_at b) 0 (hill_of a v b) (meets laws a allowed.2)
+          (meets laws b allowed.3) after before (rises laws a allowed.2) lt in
           let e = is_second (cut_at a) 0 (hill_of a v b) (cut_at b) lt in
           let fa = sa.front in let ba = sa.back in let fb = sb.front in let bb = sb.back in
           let h = hill_within in let t = o.top_is in let u = o.far_top in
           record { front = omega (arith, ap (top_of forward) e); back = omega (arith, ap (top_of backward) e) }
       | inr le ↦
-          let o = first_over laws (cut_at a) (cut_at b) 0 (hill_of a v b) (meets laws a allowed.2) (meets laws b allowed.3) after before (rises laws b allowed.3) le in
+          let o = first_over laws (cut_at a) (cut_at b) 0 (hill_of a v b) (meets laws a allowed.2)
+          (meets laws b allowed.3) after before (rises laws b allowed.3) le in
           let e = is_first (cut_at a) 0 (hill_of a v b) (cut_at b) le in
           let fa = sa.front in let ba = sa.back in let fb = sb.front in let bb = sb.back in
           let h = hill_within in let t = o.top_is in let u = o.far_top in

@@ -1,5 +1,6 @@
 -- The rows of terms that the first positions leave.
-use Rattle.std.proofs.Common.{◌≡◌, ℕ, zero, suc, ◌+◌, ◌<◌, ◌≤◌, refl, sym, subst, ap, arith, ◌∙◌, List, [], ◌∷◌, ◌++◌, take, length, reverse, get_or, Option, Some, None}
+use Rattle.std.proofs.Common.{◌≡◌, ℕ, zero, suc, ◌+◌, ◌<◌, ◌≤◌, refl, sym, subst, ap, arith, ◌∙◌, List}
+use Rattle.std.proofs.Common.{[], ◌∷◌, ◌++◌, take, length, reverse, get_or, Option, Some, None}
 use Rattle.std.specs.Prelude.{option_and_then}
 use Rattle.std.proofs.lemmas.Grind.{common_steps}
 use Rattle.sp_terms.specs.declared.position.Position.{Position}
@@ -46,17 +47,21 @@ record Pushed (p : Position) (st st' : List Term) : Type 0 where
   was : st ≡ reverse (parts_of t) ++ rest
   own : IsTermAt p t
 
-gathered : (k : ℕ) (st : List Term) (acc ts : Parts) (rest : List Term) → gather k st acc ≡ Some (ts, rest) → (count ts ≡ k + count acc) × (reverse (list_of_parts acc) ++ st ≡ reverse (list_of_parts ts) ++ rest)
+gathered : (k : ℕ) (st : List Term) (acc ts : Parts) (rest : List Term) → gather k st acc ≡ Some (ts, rest)
+    → (count ts ≡ k + count acc) × (reverse (list_of_parts acc) ++ st ≡ reverse (list_of_parts ts) ++ rest)
 gathered zero st acc ts rest e =
     let s = some_same e in
-    subst (λ (r : Parts × List Term). (count r.0 ≡ 0 + count acc) × (reverse (list_of_parts acc) ++ st ≡ reverse (list_of_parts r.0) ++ r.1)) s (omega arith, refl)
+    subst
+    (λ (r : Parts × List Term). (count r.0 ≡ 0 + count acc) × (reverse (list_of_parts acc) ++ st ≡ reverse (list_of_parts r.0) ++ r.1))
+    s (omega arith, refl)
 gathered (suc k) [] acc ts rest e = absurd (none_some e)
 gathered (suc k) (t ∷ st) acc ts rest e =
     let r = gathered k st (part t acc) ts rest e in
     let move : reverse (list_of_parts acc) ++ t ∷ st ≡ reverse (t ∷ list_of_parts acc) ++ st = grind (arith, common_steps) in
     (omega (arith, r.0), move ∙ r.1)
 
-picked : (o : Option (Parts × List Term)) (st' : List Term) → option_and_then (λ p. Some (par p.0 ∷ p.1)) o ≡ Some st' → (ts : Parts) × (rest : List Term) × (o ≡ Some (ts, rest)) × (st' ≡ par ts ∷ rest)
+picked : (o : Option (Parts × List Term)) (st' : List Term) → option_and_then (λ p. Some (par p.0 ∷ p.1)) o ≡ Some st'
+    → (ts : Parts) × (rest : List Term) × (o ≡ Some (ts, rest)) × (st' ≡ par ts ∷ rest)
 picked None st' e = absurd (none_some e)
 picked (Some (ts, rest)) st' e = (ts, rest, refl, sym (some_same e))
 
@@ -65,7 +70,13 @@ pushed (Hold size) st st' e = record { t = hold size; rest = st; is = sym (some_
 pushed (at.Task extra share time) [] st' e = absurd (none_some e)
 pushed (at.Task extra share time) (b ∷ []) st' e = absurd (none_some e)
 pushed (at.Task extra share time) (b ∷ a ∷ st) st' e =
-    record { t = series a (record { extra = extra; share = share; time = time }) b; rest = st; is = sym (some_same e); was = two a b st; own = (a, b, refl) }
+    record {
+      t = series a (record { extra = extra; share = share; time = time }) b;
+      rest = st;
+      is = sym (some_same e);
+      was = two a b st;
+      own = (a, b, refl);
+    }
   where
     two : (a b : Term) (st : List Term) → ◌≡◌ {A = List Term} (b ∷ a ∷ st) (reverse (a ∷ b ∷ []) ++ st)
     two a b st = grind (arith, common_steps)
@@ -111,17 +122,20 @@ reverse_allowed (t ∷ xs) h =
     let e : reverse (t ∷ xs) ≡ reverse xs ++ t ∷ [] = grind (arith, common_steps) in
     subst AllAllowed (sym e) (allowed_append (reverse xs) (t ∷ []) (reverse_allowed xs h.1) (h.0, tt))
 
-split_push : (qs rs : List Position) (st out : List Term) → push_all (qs ++ rs) st ≡ Some out → (mid : List Term) × (push_all qs st ≡ Some mid) × (push_all rs mid ≡ Some out)
+split_push : (qs rs : List Position) (st out : List Term) → push_all (qs ++ rs) st ≡ Some out
+    → (mid : List Term) × (push_all qs st ≡ Some mid) × (push_all rs mid ≡ Some out)
 split_push [] rs st out e = (st, refl, e)
 split_push (q ∷ qs) rs st out e =
     let (next, f, g) = pushed_pick (push q st) (qs ++ rs) out e in
     let (mid, a, b) = split_push qs rs next out g in
     (mid, ap (option_and_then (push_all qs)) f ∙ a, b)
 
-pub next_at : (ps : List Position) (i : ℕ) (p : Position) → IsTerms ps → i < length ps → get_or ps i p ≡ p → IsNextRow p (term_at ps i) (row_of ps i) (row_of ps (suc i))
+pub next_at : (ps : List Position) (i : ℕ) (p : Position) → IsTerms ps → i < length ps
+    → get_or ps i p ≡ p → IsNextRow p (term_at ps i) (row_of ps i) (row_of ps (suc i))
 next_at ps i p a lt here =
     let (after, e) = split_at ps i p lt here in
-    let whole : push_all (take i ps ++ p ∷ after) [] ≡ Some (term_of ps ∷ []) = subst (λ (l : List Position). push_all l [] ≡ Some (term_of ps ∷ [])) e a.is in
+    let whole : push_all (take i ps ++ p ∷ after) [] ≡ Some (term_of ps ∷ []) =
+    subst (λ (l : List Position). push_all l [] ≡ Some (term_of ps ∷ [])) e a.is in
     let (mid, before, on) = split_push (take i ps) (p ∷ after) [] (term_of ps ∷ []) whole in
     let (next, f, g) = pushed_pick (push p mid) after (term_of ps ∷ []) on in
     let x = pushed p mid next f in
@@ -130,7 +144,8 @@ next_at ps i p a lt here =
     let r0 = rest.total_is in let a0 = all.total_is in
     let fits = a.total in
     let now : push_all (take (suc i) ps) [] ≡ Some next =
-    ap (λ (l : List Position). push_all l []) (take_more ps i p lt here) ∙ push_all_append (take i ps) (p ∷ []) [] mid before ∙ ap (option_and_then (push_all [])) f in
+    ap (λ (l : List Position). push_all l []) (take_more ps i p lt here)
+    ∙ push_all_append (take i ps) (p ∷ []) [] mid before ∙ ap (option_and_then (push_all [])) f in
     let stack0 : stack_of (take i ps) ≡ mid = ap stack_from before in
     let stack1 : stack_of (take (suc i) ps) ≡ x.t ∷ x.rest = ap stack_from now ∙ x.is in
     let term : term_at ps i ≡ x.t = ap last_term stack1 in
@@ -154,7 +169,8 @@ next_at ps i p a lt here =
 
 -- the row of all positions is the whole term
 pub row_whole : (ps : List Position) → IsTerms ps → row_of ps (length ps) ≡ term_of ps ∷ []
-row_whole ps a = ap (λ (l : List Position). reverse (stack_of l)) (all_taken ps) ∙ ap (λ (o : Option (List Term)). reverse (stack_from o)) a.is ∙ one (term_of ps)
+row_whole ps a = ap (λ (l : List Position). reverse (stack_of l)) (all_taken ps)
+    ∙ ap (λ (o : Option (List Term)). reverse (stack_from o)) a.is ∙ one (term_of ps)
   where
     all_taken : (xs : List Position) → take (length xs) xs ≡ xs
     all_taken xs = grind (arith, common_steps)
@@ -164,14 +180,22 @@ row_whole ps a = ap (λ (l : List Position). reverse (stack_of l)) (all_taken ps
 
 next_width : (p : Position) (t : Term) (row row' : List Term) → IsNextRow p t row row' → row_width row' ≡ suc (row_width row)
 next_width p t row row' n =
-    omega (arith, ap row_width n.was, ap row_width n.now_is, row_width_append n.before (parts_of t), row_width_append n.before (t ∷ []), width_parts t)
+    omega (
+      arith,
+      ap row_width n.was,
+      ap row_width n.now_is,
+      row_width_append n.before (parts_of t),
+      row_width_append n.before (t ∷ []),
+      width_parts t,
+    )
 
 pub index_there : (ps : List Position) (i : ℕ) → i < length ps → (p : Position) × (get_or ps i p ≡ p)
 index_there [] i h = absurd (omega arith)
 index_there (p ∷ ps) zero h = (p, refl)
 index_there (p ∷ ps) (suc i) h = index_there ps i (omega arith)
 
-pub next_there : (ps : List Position) (i : ℕ) → IsTerms ps → i < length ps → (p : Position) × IsNextRow p (term_at ps i) (row_of ps i) (row_of ps (suc i))
+pub next_there : (ps : List Position) (i : ℕ) → IsTerms ps → i < length ps
+    → (p : Position) × IsNextRow p (term_at ps i) (row_of ps i) (row_of ps (suc i))
 next_there ps i a lt = let (p, here) = index_there ps i lt in (p, next_at ps i p a lt here)
 
 pub row_width_is : (ps : List Position) (i : ℕ) → IsTerms ps → i ≤ length ps → row_width (row_of ps i) ≡ i
@@ -185,7 +209,8 @@ row_width_before before t = row_width_append before (t ∷ []) ∙ omega arith
 
 pub ends_append : (n : ℕ) (a b : List Term) → positions_after n (a ++ b) ≡ positions_after n a ++ positions_after (n + row_width a) b
 ends_append n [] b = ap (λ (m : ℕ). positions_after m b) (omega arith)
-ends_append n (t ∷ a) b = ap (λ (l : List ℕ). (n + width_of t) ∷ l) (ends_append (n + width_of t) a b ∙ ap (λ (m : ℕ). positions_after (n + width_of t) a ++ positions_after m b) (omega arith))
+ends_append n (t ∷ a) b = ap (λ (l : List ℕ). (n + width_of t) ∷ l)
+    (ends_append (n + width_of t) a b ∙ ap (λ (m : ℕ). positions_after (n + width_of t) a ++ positions_after m b) (omega arith))
 
 pub ends_length : (n : ℕ) (a : List Term) → length (positions_after n a) ≡ length a
 ends_length n [] = refl

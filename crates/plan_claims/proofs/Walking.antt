@@ -1,5 +1,6 @@
 -- One step of the walk from the last position down.
-use Rattle.std.proofs.Common.{◌≡◌, ℕ, zero, suc, ◌+◌, ◌-◌, ◌<◌, ◌≤◌, ◌⊎◌, inl, inr, refl, sym, subst, ap, arith, ◌∙◌, List, [], ◌∷◌, ◌++◌, length, get_or, slice_index_or, reverse, map, Option, Some, None}
+use Rattle.std.proofs.Common.{◌≡◌, ℕ, zero, suc, ◌+◌, ◌-◌, ◌<◌, ◌≤◌, ◌⊎◌, inl, inr, refl, sym, subst, ap, arith, ◌∙◌}
+use Rattle.std.proofs.Common.{List, [], ◌∷◌, ◌++◌, length, get_or, slice_index_or, reverse, map, Option, Some, None}
 use Rattle.std.specs.Prelude.{pos, ◌-ℤ◌, ℤ, All, unsigned_abs, IfSome}
 use Rattle.std.proofs.lemmas.Bool.Decides.{nat_tests}
 use Rattle.std.proofs.lemmas.Grind.{common_steps}
@@ -28,7 +29,8 @@ use Rattle.plan_claims.specs.Walks.{IsLeft, IsRight, AreMet, AreClaimsOf, claims
 use Rattle.plan_claims.specs.Wants.{Shows, ShowsIf, AllShow, AreHanded, MeetsIf, claim_if}
 use Rattle.plan_claims.proofs.Peaks.{top_within, start_below}
 use Rattle.lists.proofs.Orders.{lt_or_le}
-use Rattle.plan_claims.proofs.Standing.{row_width, row_width_before, row_width_is, row_whole, index_there, next_at, next_there, ends_append, ends_length}
+use Rattle.plan_claims.proofs.Standing.{row_width, row_width_before, row_width_is, row_whole, index_there}
+use Rattle.plan_claims.proofs.Standing.{next_at, next_there, ends_append, ends_length}
 
 -- ---- what is left
 
@@ -38,7 +40,8 @@ show_append [] b (v ∷ x) y h k = absurd h
 show_append (c ∷ a) b [] y h k = absurd h
 show_append (c ∷ a) b (v ∷ x) y h k = (h.0, show_append a b x y h.1 k)
 
-show_last : (a : List Cut) (c : Cut) (x : List (Option Wanted)) (v : Option Wanted) → AllShow (a ++ c ∷ []) (x ++ v ∷ []) → AllShow a x × ShowsIf c v
+show_last : (a : List Cut) (c : Cut) (x : List (Option Wanted)) (v : Option Wanted)
+    → AllShow (a ++ c ∷ []) (x ++ v ∷ []) → AllShow a x × ShowsIf c v
 show_last [] c [] v h = (tt, h.0)
 show_last [] c (w ∷ []) v h = absurd h.1
 show_last [] c (w ∷ u ∷ x) v h = absurd h.1
@@ -127,7 +130,8 @@ module _ (laws : LawsBelow) (t : Term) (allowed : IsAllowed t) (within : total_o
   ranged_if None s = tt
   ranged_if (Some w) s = ranged w s
 
-put_within : (k : ℕ) (w : Option Wanted) (rev : List Claim) → k ≤ 4294967295 → RangedIf w → All IsClaimWithin rev → All IsClaimWithin (claims_put k w ++ rev)
+put_within : (k : ℕ) (w : Option Wanted) (rev : List Claim) → k ≤ 4294967295
+    → RangedIf w → All IsClaimWithin rev → All IsClaimWithin (claims_put k w ++ rev)
 unfolding RangedIf
 put_within k None rev h r a = a
 put_within k (Some w) rev h r a = All-cons IsClaimWithin _ rev (record { position = h; bound = abs_within w.limit r.limit; rest = r.low }) a
@@ -146,10 +150,12 @@ split_equal (x ∷ a) b (y ∷ c) d n e = let r = split_equal a b c d (omega ari
     tail_same : {x y : Option RuleClaim} {xs ys : List (Option RuleClaim)} → ◌≡◌ {A = List (Option RuleClaim)} (x ∷ xs) (y ∷ ys) → xs ≡ ys
     tail_same e = cc
 
-    both : {x y : Option RuleClaim} {xs ys : List (Option RuleClaim)} → x ≡ y → xs ≡ ys → ◌≡◌ {A = List (Option RuleClaim)} (x ∷ xs) (y ∷ ys)
+    both : {x y : Option RuleClaim} {xs ys : List (Option RuleClaim)}
+        → x ≡ y → xs ≡ ys → ◌≡◌ {A = List (Option RuleClaim)} (x ∷ xs) (y ∷ ys)
     both p q = λ i. p i ∷ q i
 
-meets_here : (t : Term) (ks : List (Option RuleClaim)) (o : Option RuleClaim) (c : RuleClaim) → MeetsIf t ks o → o ≡ Some c → MeetsRule t ks c
+meets_here : (t : Term) (ks : List (Option RuleClaim)) (o : Option RuleClaim) (c : RuleClaim)
+    → MeetsIf t ks o → o ≡ Some c → MeetsRule t ks c
 meets_here t ks None c h e = absurd (none_some e)
   where
     none_some : {A : Type 0} {x : A} → None ≡ Some x → ⊥
@@ -175,7 +181,8 @@ module _ (laws : LawsBelow) (ps : List Position) (m : ℕ) (terms : IsTerms ps) 
     pub last : HasLast p (term_at ps m) before notes
     pub shows : ShowsIf (cut_at (term_at ps m)) w
 
-  pub last_of : (p : Position) (notes : Noted) (todo : List (Option Wanted)) (w : Option Wanted) → get_or ps m p ≡ p → IsLeft ps (suc m) notes (todo ++ w ∷ []) → Last p notes w
+  pub last_of : (p : Position) (notes : Noted) (todo : List (Option Wanted)) (w : Option Wanted)
+      → get_or ps m p ≡ p → IsLeft ps (suc m) notes (todo ++ w ∷ []) → Last p notes w
   last_of p notes todo w here l =
       let x = next_at ps m p terms (omega arith) here in
       let t : Term = term_at ps m in
@@ -189,7 +196,8 @@ module _ (laws : LawsBelow) (ps : List Position) (m : ℕ) (terms : IsTerms ps) 
         shows = (show_last (map cut_at x.before) (cut_at t) todo w s).1;
       }
 
-  pub left_on : (before notes' : Noted) (todo ws : List (Option Wanted)) (w : Option Wanted) → AllShow (map cut_at (row_of ps (suc m))) (todo ++ w ∷ []) → AreNotesOf ps m before → notes' ≡ before
+  pub left_on : (before notes' : Noted) (todo ws : List (Option Wanted)) (w : Option Wanted)
+      → AllShow (map cut_at (row_of ps (suc m))) (todo ++ w ∷ []) → AreNotesOf ps m before → notes' ≡ before
       → AreHanded (term_at ps m) w ws → IsLeft ps m notes' (todo ++ ws)
   left_on before notes' todo ws w shows noted same h =
       let (p, x) = next_there ps m terms (omega arith) in
@@ -199,12 +207,15 @@ module _ (laws : LawsBelow) (ps : List Position) (m : ℕ) (terms : IsTerms ps) 
       record {
         noted = subst (AreNotesOf ps m) (sym same) noted;
         shows = subst (λ (l : List Cut). AllShow l (todo ++ ws)) (sym (ap (map cut_at) x.was ∙ map-append cut_at x.before (parts_of t)))
-            (show_append (map cut_at x.before) (map cut_at (parts_of t)) todo ws (show_last (map cut_at x.before) (cut_at t) todo w s).0 h.all);
+            (show_append (map cut_at x.before) (map cut_at (parts_of t)) todo ws
+            (show_last (map cut_at x.before) (cut_at t) todo w s).0 h.all);
       }
 
-  module _ (root : Wanted) (todo ws : List (Option Wanted)) (w : Option Wanted) (rev : List Claim) (l : AllShow (map cut_at (row_of ps (suc m))) (todo ++ w ∷ []))
+  module _ (root : Wanted) (todo ws : List (Option Wanted)) (w : Option Wanted)
+      (rev : List Claim) (l : AllShow (map cut_at (row_of ps (suc m))) (todo ++ w ∷ []))
       (h : AreHanded (term_at ps m) w ws) (r : IsRight ps (suc m) root (todo ++ w ∷ []) rev) where
-    module _ (f : ℕ → Option RuleClaim) (e : map f (positions_after 0 (row_of ps m)) ≡ map claim_if (todo ++ ws)) (agree : (j : ℕ) → m < j → f j ≡ claim_at (claims_put (suc m) w ++ rev) j) where
+    module _ (f : ℕ → Option RuleClaim) (e : map f (positions_after 0 (row_of ps m)) ≡ map claim_if (todo ++ ws))
+        (agree : (j : ℕ) → m < j → f j ≡ claim_at (claims_put (suc m) w ++ rev) j) where
       here : f (suc m) ≡ claim_if w
       here = agree (suc m) (omega arith) ∙ put_claim (suc m) w rev r.rising
 
@@ -222,11 +233,21 @@ module _ (laws : LawsBelow) (ps : List Position) (m : ℕ) (terms : IsTerms ps) 
           subst (λ (l : List Cut). AllShow l (todo ++ w ∷ [])) (ap (map cut_at) x.now_is ∙ map-append cut_at x.before (t ∷ [])) l in
           let sb = (show_last (map cut_at x.before) (cut_at t) todo w s).0 in
           let zero_more : 0 + row_width x.before ≡ row_width x.before = omega arith in
-          let ends : map f (positions_after 0 (row_of ps m)) ≡ map f (positions_after 0 x.before) ++ map f (positions_after (row_width x.before) (parts_of t)) =
-          ap (λ (l : List Term). map f (positions_after 0 l)) x.was ∙ ap (map f) (ends_append 0 x.before (parts_of t)) ∙ map-append f (positions_after 0 x.before) (positions_after (0 + row_width x.before) (parts_of t))
+          let ends : map f (positions_after 0 (row_of ps m))
+          ≡ map f (positions_after 0 x.before) ++ map f (positions_after (row_width x.before) (parts_of t)) =
+          ap (λ (l : List Term). map f (positions_after 0 l)) x.was ∙ ap (map f) (ends_append 0 x.before (parts_of t))
+          ∙ map-append f (positions_after 0 x.before) (positions_after (0 + row_width x.before) (parts_of t))
           ∙ ap (λ (n : ℕ). map f (positions_after 0 x.before) ++ map f (positions_after n (parts_of t))) zero_more in
-          let z = split_equal (map f (positions_after 0 x.before)) (map f (positions_after (row_width x.before) (parts_of t))) (map claim_if todo) (map claim_if ws)
-          (omega (arith, map_lengths f (positions_after 0 x.before), ends_length 0 x.before, claims_lengths todo, show_length (map cut_at x.before) todo sb, map_length x.before))
+          let z = split_equal (map f (positions_after 0 x.before))
+          (map f (positions_after (row_width x.before) (parts_of t))) (map claim_if todo) (map claim_if ws)
+          (omega (
+            arith,
+            map_lengths f (positions_after 0 x.before),
+            ends_length 0 x.before,
+            claims_lengths todo,
+            show_length (map cut_at x.before) todo sb,
+            map_length x.before,
+          ))
           (sym ends ∙ e ∙ map-append claim_if todo ws) in
           record { before = x.before; now_is = x.now_is; front = z.0; parts = z.1 }
 
@@ -238,8 +259,10 @@ module _ (laws : LawsBelow) (ps : List Position) (m : ℕ) (terms : IsTerms ps) 
           let s = split in
           let t : Term = term_at ps m in
           let at : (0 + row_width s.before) + width_of t ≡ suc m = omega (arith, wide s) in
-          ap (λ (l : List Term). map f (positions_after 0 l)) s.now_is ∙ ap (map f) (ends_append 0 s.before (t ∷ [])) ∙ map-append f (positions_after 0 s.before) (positions_after (0 + row_width s.before) (t ∷ []))
-          ∙ ap (λ (n : ℕ). map f (positions_after 0 s.before) ++ f n ∷ []) at ∙ ap (λ (o : Option RuleClaim). map f (positions_after 0 s.before) ++ o ∷ []) here
+          ap (λ (l : List Term). map f (positions_after 0 l)) s.now_is ∙ ap (map f) (ends_append 0 s.before (t ∷ []))
+          ∙ map-append f (positions_after 0 s.before) (positions_after (0 + row_width s.before) (t ∷ []))
+          ∙ ap (λ (n : ℕ). map f (positions_after 0 s.before) ++ f n ∷ []) at ∙ ap
+          (λ (o : Option RuleClaim). map f (positions_after 0 s.before) ++ o ∷ []) here
           ∙ ap (λ (l : List (Option RuleClaim)). l ++ claim_if w ∷ []) s.front ∙ sym (map-append claim_if todo (w ∷ []))
 
       met : AreMet ps (suc m) root f
@@ -250,9 +273,11 @@ module _ (laws : LawsBelow) (ps : List Position) (m : ℕ) (terms : IsTerms ps) 
           let s = split in
           let t : Term = term_at ps m in
           let x : MeetsRule t (map f (positions_after (row_width s.before) (parts_of t))) c =
-          subst (λ (ks : List (Option RuleClaim)). MeetsRule t ks c) (sym s.parts) (meets_here t (map claim_if ws) (claim_if w) c h.meets (sym here ∙ is)) in
+          subst (λ (ks : List (Option RuleClaim)). MeetsRule t ks c) (sym s.parts)
+          (meets_here t (map claim_if ws) (claim_if w) c h.meets (sym here ∙ is)) in
           let start : row_width s.before ≡ suc m - width_of t = omega (arith, wide s) in
-          let y : MeetsRule t (map f (part_positions (suc m) t)) c = subst (λ (n : ℕ). MeetsRule t (map f (positions_after n (parts_of t))) c) start x in
+          let y : MeetsRule t (map f (part_positions (suc m) t)) c =
+          subst (λ (n : ℕ). MeetsRule t (map f (positions_after n (parts_of t))) c) start x in
           let one : m ≡ suc m - 1 = omega arith in
           subst (λ (n : ℕ). MeetsRule (term_at ps n) (map f (part_positions (suc m) (term_at ps n))) c) one y
 
@@ -275,13 +300,15 @@ module _ (laws : LawsBelow) (ps : List Position) (m : ℕ) (terms : IsTerms ps) 
         let n = r.few in
         record {
           few = let q = put_length (suc m) w rev in omega arith;
-          within = put_within (suc m) w rev (omega arith) (ranged_if laws t x.allowed x.within w (show_last (map cut_at x.before) (cut_at t) todo w s).1) r.within;
+          within = put_within (suc m) w rev (omega arith)
+              (ranged_if laws t x.allowed x.within w (show_last (map cut_at x.before) (cut_at t) todo w s).1) r.within;
           rising = put_rises m w rev r.rising;
           inside = λ j lt. put_other (suc m) w rev j (omega arith) ∙ r.inside j lt;
           whatever = all_met;
         }
 
-pub reverse_put : (k : ℕ) (w : Option Wanted) (cs cs' : List Claim) → cs' ≡ cs ++ claims_put k w → reverse cs' ≡ claims_put k w ++ reverse cs
+pub reverse_put : (k : ℕ) (w : Option Wanted) (cs cs' : List Claim)
+    → cs' ≡ cs ++ claims_put k w → reverse cs' ≡ claims_put k w ++ reverse cs
 reverse_put k None cs cs' e = ap reverse e ∙ nothing cs
   where
     nothing : (cs : List Claim) → reverse (cs ++ []) ≡ reverse cs
@@ -293,12 +320,14 @@ reverse_put k (Some w) cs cs' e = ap reverse e ∙ one cs (record { position = k
 
 -- ---- the step, at a position
 
-limits_if : LawsBelow → (t : Term) → IsAllowed t → total_of t ≤ most_total → (o : Option Wanted) → ShowsIf (cut_at t) o → IfSome o (λ w. w.limit ≤ most_total)
+limits_if : LawsBelow → (t : Term) → IsAllowed t → total_of t ≤ most_total
+    → (o : Option Wanted) → ShowsIf (cut_at t) o → IfSome o (λ w. w.limit ≤ most_total)
 limits_if laws t a h None s = tt
 limits_if laws t a h (Some w) s = limit_within laws t a h w s
 
 module _ (laws : LawsBelow) (ps : List Position) (k : ℕ) (terms : IsTerms ps) (low : 1 ≤ k) (high : k ≤ length ps)
-    (p : Position) (here : get_or ps (k - 1) p ≡ p) (notes : Noted) (all todo : List (Option Wanted)) (w : Option Wanted) (et : all ≡ todo ++ w ∷ []) (l : IsLeft ps k notes all) where
+    (p : Position) (here : get_or ps (k - 1) p ≡ p) (notes : Noted) (all todo : List (Option Wanted))
+    (w : Option Wanted) (et : all ≡ todo ++ w ∷ []) (l : IsLeft ps k notes all) where
   pub same : k ≡ suc (k - 1)
   same = omega arith
 
@@ -314,17 +343,24 @@ module _ (laws : LawsBelow) (ps : List Position) (k : ℕ) (terms : IsTerms ps) 
   pub here_limit : IfSome w (λ w. w.limit ≤ most_total)
   here_limit = let x = here_last in limits_if laws (term_at ps (k - 1)) x.last.1.allowed x.last.1.within w x.shows
 
-  module _ (before : Noted) (noted : AreNotesOf ps (k - 1) before) (notes' : Noted) (new : List (Option Wanted)) (h : IsHandedDown (term_at ps (k - 1)) before w notes' todo new) where
+  module _ (before : Noted) (noted : AreNotesOf ps (k - 1) before) (notes' : Noted)
+      (new : List (Option Wanted)) (h : IsHandedDown (term_at ps (k - 1)) before w notes' todo new) where
     pub here_left : IsLeft ps (k - 1) notes' new
-    here_left = subst (IsLeft ps (k - 1) notes') (sym h.behind) (left_on laws ps (k - 1) terms few before notes' todo h.parts w left.shows noted h.left h.handed)
+    here_left = subst (IsLeft ps (k - 1) notes') (sym h.behind)
+        (left_on laws ps (k - 1) terms few before notes' todo h.parts w left.shows noted h.left h.handed)
 
-    pub here_right : (root : Wanted) (cs cs' : List Claim) → cs' ≡ cs ++ claims_put k w → IsRight ps k root all (reverse cs) → IsRight ps (k - 1) root new (reverse cs')
+    pub here_right : (root : Wanted) (cs cs' : List Claim) → cs' ≡ cs ++ claims_put k w
+        → IsRight ps k root all (reverse cs) → IsRight ps (k - 1) root new (reverse cs')
     here_right root cs cs' put r =
         let r' : IsRight ps (suc (k - 1)) root (todo ++ w ∷ []) (reverse cs) =
-        subst (λ (j : ℕ). IsRight ps j root (todo ++ w ∷ []) (reverse cs)) same (subst (λ (x : List (Option Wanted)). IsRight ps k root x (reverse cs)) et r) in
-        let z : IsRight ps (k - 1) root (todo ++ h.parts) (claims_put (suc (k - 1)) w ++ reverse cs) = right_on laws ps (k - 1) terms few root todo h.parts w (reverse cs) left.shows h.handed r' in
+        subst (λ (j : ℕ). IsRight ps j root (todo ++ w ∷ []) (reverse cs)) same
+        (subst (λ (x : List (Option Wanted)). IsRight ps k root x (reverse cs)) et r) in
+        let z : IsRight ps (k - 1) root (todo ++ h.parts) (claims_put (suc (k - 1)) w ++ reverse cs) =
+        right_on laws ps (k - 1) terms few root todo h.parts w (reverse cs) left.shows h.handed r' in
         let y : IsRight ps (k - 1) root new (claims_put k w ++ reverse cs) =
-        subst (λ (j : ℕ). IsRight ps (k - 1) root new (claims_put j w ++ reverse cs)) (sym same) (subst (λ (x : List (Option Wanted)). IsRight ps (k - 1) root x (claims_put (suc (k - 1)) w ++ reverse cs)) (sym h.behind) z) in
+        subst (λ (j : ℕ). IsRight ps (k - 1) root new (claims_put j w ++ reverse cs)) (sym same)
+        (subst (λ (x : List (Option Wanted)). IsRight ps (k - 1) root x (claims_put (suc (k - 1)) w ++ reverse cs))
+        (sym h.behind) z) in
         subst (IsRight ps (k - 1) root new) (sym (reverse_put k w cs cs' put)) y
 
 -- the position at this place
@@ -335,7 +371,8 @@ pub some_place : (ps : List Position) (k : ℕ) → 1 ≤ k → k ≤ length ps 
 some_place ps k low high = index_there ps (k - 1) (omega arith)
 
 -- something is to be done at each position
-pub todo_there : (ps : List Position) (k : ℕ) → IsTerms ps → 1 ≤ k → k ≤ length ps → (notes : Noted) (todo : List (Option Wanted)) → IsLeft ps k notes todo → 0 < length todo
+pub todo_there : (ps : List Position) (k : ℕ) → IsTerms ps → 1 ≤ k → k ≤ length ps
+    → (notes : Noted) (todo : List (Option Wanted)) → IsLeft ps k notes todo → 0 < length todo
 todo_there ps k terms low high notes todo l =
     let (p, x) = next_there ps (k - 1) terms (omega arith) in
     let same : suc (k - 1) ≡ k = omega arith in
@@ -348,16 +385,21 @@ todo_there ps k terms low high notes todo l =
 
 -- ---- the ends of the walk
 
-pub left_starts : (ps : List Position) (root : Wanted) (notes : Noted) (todo : List (Option Wanted)) → IsTerms ps → AreNotesOf ps (length ps) notes → Shows (cut_at (term_of ps)) root → todo ≡ Some root ∷ [] → IsLeft ps (length ps) notes todo
+pub left_starts : (ps : List Position) (root : Wanted) (notes : Noted) (todo : List (Option Wanted)) → IsTerms ps
+    → AreNotesOf ps (length ps) notes → Shows (cut_at (term_of ps)) root → todo ≡ Some root ∷ [] → IsLeft ps (length ps) notes todo
 left_starts ps root notes todo terms h s e = record {
   noted = h;
-  shows = subst (λ (l : List Term). AllShow (map cut_at l) todo) (sym (row_whole ps terms)) (subst (AllShow (cut_at (term_of ps) ∷ [])) (sym e) (s, tt));
+  shows = subst (λ (l : List Term). AllShow (map cut_at l) todo)
+      (sym (row_whole ps terms)) (subst (AllShow (cut_at (term_of ps) ∷ [])) (sym e) (s, tt));
 }
 
-pub right_starts : (ps : List Position) (root : Wanted) (todo : List (Option Wanted)) (claims : List Claim) → IsTerms ps → todo ≡ Some root ∷ [] → claims ≡ [] → IsRight ps (length ps) root todo claims
+pub right_starts : (ps : List Position) (root : Wanted) (todo : List (Option Wanted)) (claims : List Claim)
+    → IsTerms ps → todo ≡ Some root ∷ [] → claims ≡ [] → IsRight ps (length ps) root todo claims
 right_starts ps root todo claims terms e none =
-    let wide : row_width (term_of ps ∷ []) ≡ length ps = ap row_width (sym (row_whole ps terms)) ∙ row_width_is ps (length ps) terms (omega arith) in
-    subst (λ (l : List (Option Wanted)). IsRight ps (length ps) root l claims) (sym e) (subst (IsRight ps (length ps) root (Some root ∷ [])) (sym none)
+    let wide : row_width (term_of ps ∷ []) ≡ length ps =
+    ap row_width (sym (row_whole ps terms)) ∙ row_width_is ps (length ps) terms (omega arith) in
+    subst (λ (l : List (Option Wanted)). IsRight ps (length ps) root l claims)
+    (sym e) (subst (IsRight ps (length ps) root (Some root ∷ [])) (sym none)
     (record {
       few = omega arith;
       within = All-nil IsClaimWithin;
@@ -365,7 +407,8 @@ right_starts ps root todo claims terms e none =
       inside = λ j h. refl;
       whatever = λ f same agree. record {
         root_is =
-            let y : map f (positions_after 0 (term_of ps ∷ [])) ≡ claim_if (Some root) ∷ [] = sym (ap (λ (l : List Term). map f (positions_after 0 l)) (row_whole ps terms)) ∙ same in
+            let y : map f (positions_after 0 (term_of ps ∷ [])) ≡ claim_if (Some root) ∷ [] =
+            sym (ap (λ (l : List Term). map f (positions_after 0 l)) (row_whole ps terms)) ∙ same in
             let n : 0 + width_of (term_of ps) ≡ length ps = omega (arith, wide) in
             ap f (sym n) ∙ head_same y;
         meet = λ j c lt le is. absurd (omega arith);
@@ -375,7 +418,8 @@ right_starts ps root todo claims terms e none =
     head_same : {x y : Option RuleClaim} {xs ys : List (Option RuleClaim)} → ◌≡◌ {A = List (Option RuleClaim)} (x ∷ xs) (y ∷ ys) → x ≡ y
     head_same e = cc
 
-pub right_ends : (ps : List Position) (root : Wanted) (notes : Noted) (todo : List (Option Wanted)) (claims : List Claim) → IsTerms ps → IsLeft ps 0 notes todo → IsRight ps 0 root todo claims → AreClaimsOf ps root claims
+pub right_ends : (ps : List Position) (root : Wanted) (notes : Noted) (todo : List (Option Wanted)) (claims : List Claim)
+    → IsTerms ps → IsLeft ps 0 notes todo → IsRight ps 0 root todo claims → AreClaimsOf ps root claims
 right_ends ps root notes todo claims terms l r =
     let none : todo ≡ [] = no_todo todo l.shows in
     let met : AreMet ps 0 root (claim_at claims) = r.whatever (claim_at claims) (ap (map claim_if) (sym none)) (λ j lt. refl) in
@@ -396,7 +440,8 @@ right_ends ps root notes todo claims terms l r =
     no_claim : {A : Type 0} {x : A} → None ≡ Some x → ⊥
     no_claim h = cc
 
-    passes : (k : ℕ) (c : RuleClaim) → claim_at claims k ≡ Some c → (0 < k) ⊎ (k ≤ 0) → (length ps < k) ⊎ (k ≤ length ps) → AreMet ps 0 root (claim_at claims) → (1 ≤ k) × (k ≤ length ps) × MeetsAt ps (claim_at claims) k c
+    passes : (k : ℕ) (c : RuleClaim) → claim_at claims k ≡ Some c → (0 < k) ⊎ (k ≤ 0) → (length ps < k) ⊎ (k ≤ length ps)
+        → AreMet ps 0 root (claim_at claims) → (1 ≤ k) × (k ≤ length ps) × MeetsAt ps (claim_at claims) k c
     passes k c is (inr low) x met = absurd (no_claim (sym (claim_low 0 claims k r.rising low) ∙ is))
     passes k c is (inl up) (inl past) met = absurd (no_claim (sym (r.inside k past) ∙ is))
     passes k c is (inl up) (inr in_it) met = (omega arith, in_it, met.meet k c up in_it is)

@@ -14,7 +14,8 @@ part-more n xs i lt part next =
     let x = get_or xs i 0 in
     let all = and_parts (leb 1 x && leb x n) (eqb (times (take i xs) x) 0) next in
     let task = and_parts (leb 1 x) (leb x n) all.0 in
-    rw (take_more xs i 0 lt) (part-push n (take i xs) x part (leb-true 1 x task.0, leb-true x n task.1) (eqb-true (times (take i xs) x) 0 all.1))
+    rw (take_more xs i 0 lt)
+    (part-push n (take i xs) x part (leb-true 1 x task.0, leb-true x n task.1) (eqb-true (times (take i xs) x) 0 all.1))
 
 pub next-of-perm : (n : ℕ) (xs : List ℕ) (i : ℕ) → i < length xs → IsPerm n xs → is_next n xs i ≡ true
 next-of-perm n xs i lt perm =

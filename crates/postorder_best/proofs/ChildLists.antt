@@ -1,5 +1,6 @@
 -- The children of each node, in rows.
-use Rattle.std.proofs.Common.{◌≡◌, ◌∙◌, ◌↔◌, inl, inr, sym, ap, subst, ℕ, zero, suc, ◌+◌, ◌<◌, ◌≤◌, Bool, true, false, eqb, eq-eqb, eqb-true, List, [], ◌∷◌, length, get_or, arith}
+use Rattle.std.proofs.Common.{◌≡◌, ◌∙◌, ◌↔◌, inl, inr, sym, ap, subst, ℕ, zero, suc, ◌+◌, ◌<◌, ◌≤◌, Bool}
+use Rattle.std.proofs.Common.{true, false, eqb, eq-eqb, eqb-true, List, [], ◌∷◌, length, get_or, arith}
 use Rattle.std.specs.List.{filter, range_with_len}
 use Rattle.std.proofs.lemmas.Bool.{cases_Bool, cases_lt}
 use Rattle.std.proofs.lemmas.List.{get_or_past}
@@ -38,8 +39,13 @@ member_range : (a n c : ℕ) → Member c (range_with_len a n) ↔ ((a ≤ c) ×
 member_range a zero c = (λ m. absurd m, λ h. let low = h.0 in let high = h.1 in absurd (omega arith))
 member_range a (suc n) c =
     let rest = member_range (a + 1) n c in (
-      (λ m. elim m [ inl e ↦ (omega arith, omega arith) | inr q ↦ (let h = rest.0 q in let low = h.0 in let high = h.1 in (omega arith, omega arith)) ]),
-      (λ h. let low = h.0 in let high = h.1 in elim (cases_lt a c) [ inl l ↦ inr (rest.1 (omega arith, omega arith)) | inr g ↦ inl (omega arith) ]),
+      (λ m. elim m [
+        | inl e ↦ (omega arith, omega arith)
+        | inr q ↦ (let h = rest.0 q in let low = h.0 in let high = h.1 in (omega arith, omega arith))
+      ]),
+      (λ h. let low = h.0 in
+          let high = h.1 in
+          elim (cases_lt a c) [ inl l ↦ inr (rest.1 (omega arith, omega arith)) | inr g ↦ inl (omega arith) ]),
     )
 
 once_range : (a n : ℕ) → Once (range_with_len a n)
@@ -61,8 +67,15 @@ module _ (nodes : List Node) (t : IsTree nodes) where
           | inl l ↦ (
               let f = member_filter (λ v. eqb (parent_of_node nodes v) x) (range_with_len 1 (length nodes)) c in
               let r = member_range 1 (length nodes) c in (
-                (λ m. let h = f.0 (subst (λ (xs : List ℕ). Member c xs) (is x l) m) in let b = r.0 h.0 in let low = b.0 in let high = b.1 in ((omega arith, omega arith), eqb-true (parent_of_node nodes c) x h.1)),
-                (λ h. let low = h.0.0 in let high = h.0.1 in subst (λ (xs : List ℕ). Member c xs) (sym (is x l)) (f.1 (r.1 (omega arith, omega arith), eq-eqb (parent_of_node nodes c) x h.1))),
+                (λ m. let h = f.0 (subst (λ (xs : List ℕ). Member c xs) (is x l) m) in
+                    let b = r.0 h.0 in
+                    let low = b.0 in
+                    let high = b.1 in
+                    ((omega arith, omega arith), eqb-true (parent_of_node nodes c) x h.1)),
+                (λ h. let low = h.0.0 in
+                    let high = h.0.1 in
+                    subst (λ (xs : List ℕ). Member c xs) (sym (is x l))
+                    (f.1 (r.1 (omega arith, omega arith), eq-eqb (parent_of_node nodes c) x h.1))),
               )
               )
           | inr g ↦ (
@@ -70,5 +83,6 @@ module _ (nodes : List Node) (t : IsTree nodes) where
             (λ h. let up = (forest_of nodes t).inside c h.0 in let e = h.1 in absurd (omega arith)),
           )
         ];
-        once = λ x l. subst Once (sym (is x l)) (once_filter (λ v. eqb (parent_of_node nodes v) x) (range_with_len 1 (length nodes)) (once_range 1 (length nodes)));
+        once = λ x l. subst Once (sym (is x l))
+            (once_filter (λ v. eqb (parent_of_node nodes v) x) (range_with_len 1 (length nodes)) (once_range 1 (length nodes)));
       }

@@ -3,14 +3,17 @@ use Rattle.postorder_best.specs.BestPostorder.{Child, children_peak}
 use Rattle.postorder_best.proofs.Forest.{MayPrecede, LeadsAll, IsFalling, Rearranged}
 
 -- two neighbours in the better order
-exchange : (need : ℕ) (a b : Child) (cs : List Child) → MayPrecede a b → children_peak need (a ∷ (b ∷ cs)) ≤ children_peak need (b ∷ (a ∷ cs))
+exchange : (need : ℕ) (a b : Child) (cs : List Child) → MayPrecede a b
+    → children_peak need (a ∷ (b ∷ cs)) ≤ children_peak need (b ∷ (a ∷ cs))
 exchange need a b cs h = let h' : b.peak + a.out ≤ a.peak + b.out = h in omega arith
 
-mono : (need : ℕ) (a : Child) (xs ys : List Child) → children_peak need xs ≤ children_peak need ys → children_peak need (a ∷ xs) ≤ children_peak need (a ∷ ys)
+mono : (need : ℕ) (a : Child) (xs ys : List Child) → children_peak need xs ≤ children_peak need ys
+    → children_peak need (a ∷ xs) ≤ children_peak need (a ∷ ys)
 mono need a xs ys h = omega arith
 
 -- whoever stands behind those that may precede it gains nothing by going first
-to_front : (need : ℕ) (c : Child) (before after : List Child) → IsFalling (before ++ (c ∷ after)) → children_peak need (before ++ (c ∷ after)) ≤ children_peak need (c ∷ (before ++ after))
+to_front : (need : ℕ) (c : Child) (before after : List Child) → IsFalling (before ++ (c ∷ after))
+    → children_peak need (before ++ (c ∷ after)) ≤ children_peak need (c ∷ (before ++ after))
 to_front need c [] after h = omega arith
 to_front need c (a ∷ before) after h =
     let ih = to_front need c before after h.1 in
@@ -26,7 +29,8 @@ drop_one : (before : List Child) (c : Child) (after : List Child) → IsFalling 
 drop_one [] c after h = h.1
 drop_one (a ∷ before) c after h = (leads a before c after h.0, drop_one before c after h.1)
   where
-    leads : (a : Child) (before : List Child) (c : Child) (after : List Child) → LeadsAll a (before ++ (c ∷ after)) → LeadsAll a (before ++ after)
+    leads : (a : Child) (before : List Child) (c : Child) (after : List Child)
+        → LeadsAll a (before ++ (c ∷ after)) → LeadsAll a (before ++ after)
     leads a [] c after h = h.1
     leads a (b ∷ before) c after h = (h.0, leads a before c after h.1)
 

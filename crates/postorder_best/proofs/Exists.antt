@@ -1,5 +1,6 @@
 -- Each forest has a listing, and it is no longer than the forest has nodes.
-use Rattle.std.proofs.Common.{◌≡◌, ◌≢◌, ◌↔◌, ◌⊎◌, ◌∙◌, inl, inr, sym, ap, subst, ℕ, zero, suc, ◌+◌, ◌<◌, ◌≤◌, Bool, true, false, List, [], ◌∷◌, ◌++◌, length, arith, refl}
+use Rattle.std.proofs.Common.{◌≡◌, ◌≢◌, ◌↔◌, ◌⊎◌, ◌∙◌, inl, inr, sym, ap, subst, ℕ, zero, suc, ◌+◌, ◌<◌}
+use Rattle.std.proofs.Common.{◌≤◌, Bool, true, false, List, [], ◌∷◌, ◌++◌, length, arith, refl}
 use Rattle.std.proofs.lemmas.Bool.{cases_eq, cases_lt}
 use Rattle.postorder_best.specs.BestPostorder.{Listed, node, ListedAll, none, more}
 use Rattle.postorder_best.specs.Postorder.{Member, IsUnder, self, step}
@@ -15,7 +16,8 @@ never_zero y x e ne self = ne e
 never_zero y x e ne (step pos p) = omega arith
 
 under_or : {parent : ℕ → ℕ} {y : ℕ} (x : ℕ) → Rooted parent y → IsUnder parent y x ⊎ (IsUnder parent y x → ⊥)
-under_or {parent} x top = elim (cases_eq x 0) [ inl e ↦ inl (subst (λ v. IsUnder parent 0 v) (sym e) self) | inr ne ↦ inr (never_zero 0 x refl ne) ]
+under_or {parent} x top =
+    elim (cases_eq x 0) [ inl e ↦ inl (subst (λ v. IsUnder parent 0 v) (sym e) self) | inr ne ↦ inr (never_zero 0 x refl ne) ]
 under_or {parent} x (raise {x = y} pos r) = elim (cases_eq y x) [
   | inl e ↦ inl (subst (λ v. IsUnder parent y v) e self)
   | inr ne ↦ elim (under_or x r) [ inl u ↦ inl (step pos u) | inr no_way ↦ inr (λ u. no_way (parent_up y x ne u)) ]
@@ -60,9 +62,13 @@ ones (x ∷ xs) = let r = ones xs in omega arith
 pub few_once : (n : ℕ) (xs : List ℕ) → Once xs → ((d : ℕ) → Member d xs → d < n) → length xs ≤ n
 few_once n xs o low = let s = sum_stands (λ v. 1) n xs o low in let b = bits_few (λ v. stands v xs) n in let e = ones xs in omega arith
 
-module _ (n : ℕ) (parent : ℕ → ℕ) (kids : ℕ → List ℕ) (forest : IsForest n parent) (exact : (x : ℕ) → x < n → (c : ℕ) → Member c (kids x) ↔ (IsNode n c × (parent c ≡ x))) where
+module _ (n : ℕ) (parent : ℕ → ℕ) (kids : ℕ → List ℕ) (forest : IsForest n parent)
+    (exact : (x : ℕ) → x < n → (c : ℕ) → Member c (kids x) ↔ (IsNode n c × (parent c ≡ x))) where
   mark : ℕ → ℕ → ℕ
-  mark x y = elim (cases_lt y n) [ inl l ↦ elim (under_or {parent = parent} {y = y} x (forest.rooted y l)) [ inl u ↦ 1 | inr no_way ↦ 0 ] | inr g ↦ 0 ]
+  mark x y = elim (cases_lt y n) [
+    | inl l ↦ elim (under_or {parent = parent} {y = y} x (forest.rooted y l)) [ inl u ↦ 1 | inr no_way ↦ 0 ]
+    | inr g ↦ 0
+  ]
 
   mark_one : (x y : ℕ) → y < n → IsUnder parent y x → mark x y ≡ 1
   unfolding mark
@@ -72,7 +78,11 @@ module _ (n : ℕ) (parent : ℕ → ℕ) (kids : ℕ → List ℕ) (forest : Is
       inner (inl w) = refl
       inner (inr no_way) = absurd (no_way u)
 
-      go : (d : (y < n) ⊎ (n ≤ y)) → (elim d as (λ v. ℕ) [ inl l ↦ elim (under_or {parent = parent} {y = y} x (forest.rooted y l)) as (λ v. ℕ) [ inl u ↦ 1 | inr no_way ↦ 0 ] | inr g ↦ 0 ]) ≡ 1
+      go : (d : (y < n) ⊎ (n ≤ y))
+          → (elim d as (λ v. ℕ) [
+            | inl l ↦ elim (under_or {parent = parent} {y = y} x (forest.rooted y l)) as (λ v. ℕ) [ inl u ↦ 1 | inr no_way ↦ 0 ]
+            | inr g ↦ 0
+          ]) ≡ 1
       go (inl l') = inner (under_or {parent = parent} {y = y} x (forest.rooted y l'))
       go (inr g) = absurd (omega arith)
 
@@ -84,7 +94,11 @@ module _ (n : ℕ) (parent : ℕ → ℕ) (kids : ℕ → List ℕ) (forest : Is
       inner (inl w) = absurd (no_one w)
       inner (inr no_way) = refl
 
-      go : (d : (y < n) ⊎ (n ≤ y)) → (elim d as (λ v. ℕ) [ inl l ↦ elim (under_or {parent = parent} {y = y} x (forest.rooted y l)) as (λ v. ℕ) [ inl u ↦ 1 | inr no_way ↦ 0 ] | inr g ↦ 0 ]) ≡ 0
+      go : (d : (y < n) ⊎ (n ≤ y))
+          → (elim d as (λ v. ℕ) [
+            | inl l ↦ elim (under_or {parent = parent} {y = y} x (forest.rooted y l)) as (λ v. ℕ) [ inl u ↦ 1 | inr no_way ↦ 0 ]
+            | inr g ↦ 0
+          ]) ≡ 0
       go (inl l') = inner (under_or {parent = parent} {y = y} x (forest.rooted y l'))
       go (inr g) = refl
 
@@ -97,7 +111,9 @@ module _ (n : ℕ) (parent : ℕ → ℕ) (kids : ℕ → List ℕ) (forest : Is
     where
       each : (y : ℕ) → y < n → mark c y ≤ mark x y
       each y ly = elim (under_or {parent = parent} {y = y} c (forest.rooted y ly)) [
-        | inl u ↦ (let a = mark_one c y ly u in let b = mark_one x y ly (under_trans u (step nc.0 (subst (λ v. IsUnder parent v x) (sym e) self))) in omega arith)
+        | inl u ↦
+            (let a = mark_one c y ly u in
+            let b = mark_one x y ly (under_trans u (step nc.0 (subst (λ v. IsUnder parent v x) (sym e) self))) in omega arith)
         | inr no_way ↦ (let a = mark_none c y no_way in omega arith)
       ]
 
@@ -117,7 +133,8 @@ module _ (n : ℕ) (parent : ℕ → ℕ) (kids : ℕ → List ℕ) (forest : Is
   is_listed : (m x : ℕ) → x < n → weight x < m → (o : List ℕ) × Listed kids x o
   is_listed zero x l w = absurd (omega arith)
   is_listed (suc m) x l w =
-      let r = each_listed (kids x) (λ c k. let h = (exact x l c).0 k in let lt = lighter x c l h.0 h.1 in is_listed m c h.0.1 (omega arith)) in
+      let r =
+      each_listed (kids x) (λ c k. let h = (exact x l c).0 k in let lt = lighter x c l h.0 h.1 in is_listed m c h.0.1 (omega arith)) in
       (r.0 ++ x ∷ [], node {x = x} {o = r.0} r.1)
 
   pub has_listing : (o : List ℕ) × ListedAll kids (kids 0) o
@@ -137,11 +154,13 @@ module _ (n : ℕ) (parent : ℕ → ℕ) (kids : ℕ → List ℕ) (forest : Is
       heavy_one : (m x : ℕ) (o : List ℕ) → Listed kids x o → x < n → weight x < m → heavy m x ≡ sum_out size o
       heavy_one zero x o listed l w = absurd (omega arith)
       heavy_one (suc m) x o (node {x = y} {o = p} all) l w =
-          let below = heavy_all (λ c. m) (kids y) p all (λ c k. let h = (exact y l c).0 k in let lt = lighter y c l h.0 h.1 in (h.0.1, omega arith)) in
+          let below = heavy_all (λ c. m) (kids y) p all
+          (λ c k. let h = (exact y l c).0 k in let lt = lighter y c l h.0 h.1 in (h.0.1, omega arith)) in
           let parts = sum_append size p (y ∷ []) in
           omega arith
 
-      heavy_all : (f : ℕ → ℕ) (cs o : List ℕ) → ListedAll kids cs o → ((c : ℕ) → Member c cs → (c < n) × (weight c < f c)) → sum_out (λ c. heavy (f c) c) cs ≡ sum_out size o
+      heavy_all : (f : ℕ → ℕ) (cs o : List ℕ) → ListedAll kids cs o
+          → ((c : ℕ) → Member c cs → (c < n) × (weight c < f c)) → sum_out (λ c. heavy (f c) c) cs ≡ sum_out size o
       heavy_all f cs o none each = refl
       heavy_all f cs o (more {c = c} {cs = ds} {o = p} {os = q} first others) each =
           let here = each c (inl refl) in
@@ -173,7 +192,9 @@ module _ (n : ℕ) (parent : ℕ → ℕ) (kids : ℕ → List ℕ) (forest : Is
     whole_low once zero_size x l =
         let o = children_listed x l in
         let row = row_of n parent kids forest exact once x l in
-        let is : whole x ≡ size x + sum_out size o.0 = whole_row x l ∙ (let e = heavy_all (λ c. suc (weight c)) (kids x) o.0 o.1 (λ c k. let h = (exact x l c).0 k in (h.0.1, omega arith)) in ap (λ s. size x + s) e) in
+        let is : whole x ≡ size x + sum_out size o.0 = whole_row x l
+        ∙ (let e = heavy_all (λ c. suc (weight c)) (kids x) o.0 o.1 (λ c k. let h = (exact x l c).0 k in (h.0.1, omega arith)) in
+        ap (λ s. size x + s) e) in
         let low = λ (y : ℕ) (m : Member y o.0). ((all_members n parent kids forest exact once x (kids x) o.0 o.1 l row y).0 m).0 in
         let all = all_once n parent kids forest exact once x (kids x) o.0 o.1 l row in
         elim (cases_eq x 0) [
@@ -185,8 +206,12 @@ module _ (n : ℕ) (parent : ℕ → ℕ) (kids : ℕ → List ℕ) (forest : Is
               )
           | inr ne ↦ (
               let whole_list = one_once n parent kids forest exact once x (o.0 ++ x ∷ []) (node {x = x} {o = o.0} o.1) (omega arith, l) in
-              let s = sum_stands size n (o.0 ++ x ∷ []) whole_list (λ y m. elim (member_parts y o.0 (x ∷ []) m) [ inl a ↦ low y a | inr b ↦ elim b [ inl q ↦ (let k = l in omega arith) | inr z ↦ absurd z ] ]) in
-              let b = totals_below (λ v. bit (stands v (o.0 ++ x ∷ [])) (size v)) size n (λ v k. bit-le (stands v (o.0 ++ x ∷ [])) (size v)) in
+              let s = sum_stands size n (o.0 ++ x ∷ []) whole_list (λ y m. elim (member_parts y o.0 (x ∷ []) m) [
+                | inl a ↦ low y a
+                | inr b ↦ elim b [ inl q ↦ (let k = l in omega arith) | inr z ↦ absurd z ]
+              ]) in
+              let b =
+              totals_below (λ v. bit (stands v (o.0 ++ x ∷ [])) (size v)) size n (λ v k. bit-le (stands v (o.0 ++ x ∷ [])) (size v)) in
               let parts = sum_append size o.0 (x ∷ []) in
               omega arith
               )

@@ -1,5 +1,6 @@
 -- Forests by functions of numbers, where 0 stands above the roots: their postorders, the memory along them, and rows of children.
-use Rattle.std.specs.Prelude.{◌≡◌, ◌↔◌, ℕ, zero, suc, ◌+◌, ◌<◌, ◌≤◌, max, Bool, ◌&&◌, not, nat_eq, if◌then◌else◌, List, [], ◌∷◌, ◌++◌, length, slice_index}
+use Rattle.std.specs.Prelude.{◌≡◌, ◌↔◌, ℕ, zero, suc, ◌+◌, ◌<◌, ◌≤◌, max, Bool, ◌&&◌, not, nat_eq}
+use Rattle.std.specs.Prelude.{if◌then◌else◌, List, [], ◌∷◌, ◌++◌, length, slice_index}
 use Rattle.std.specs.List.{list_any}
 use Rattle.postorder_best.specs.Postorder.{Member, StandsTogether}
 use Rattle.postorder_best.specs.BestPostorder.{Child, children_peak, subtrees_of}

@@ -1,5 +1,6 @@
 -- No postorder has a lower peak than the best one.
-use Rattle.std.proofs.Common.{sym, ◌∙◌, subst, ap, ◌+◌, ◌-◌, ◌≡◌, ◌≢◌, ◌↔◌, inl, inr, ℕ, zero, suc, ◌<◌, ◌≤◌, arith, refl, Bool, true, false, ◌||◌, eqb, eq-eqb, eqb-true, List, [], ◌∷◌, ◌++◌, length, get_or, take, append_assoc}
+use Rattle.std.proofs.Common.{sym, ◌∙◌, subst, ap, ◌+◌, ◌-◌, ◌≡◌, ◌≢◌, ◌↔◌, inl, inr, ℕ, zero, suc, ◌<◌, ◌≤◌, arith, refl, Bool}
+use Rattle.std.proofs.Common.{true, false, ◌||◌, eqb, eq-eqb, eqb-true, List, [], ◌∷◌, ◌++◌, length, get_or, take, append_assoc}
 use Rattle.std.proofs.lemmas.Bool.{cases_eq, cases_lt, ne_eqb}
 use Rattle.std.proofs.lemmas.List.{length-append, take_more, take-append-le}
 use Rattle.postorder_best.specs.BestPostorder.{children_peak, subtrees_of}
@@ -20,20 +21,24 @@ apart_bits true true size h = absurd (let e = h refl in cc)
 apart_bits true false size h = refl
 apart_bits false b size h = omega arith
 
-pub sum_stands : (out : ℕ → ℕ) (n : ℕ) (cs : List ℕ) → Once cs → ((d : ℕ) → Member d cs → d < n) → total (λ w. bit (stands w cs) (out w)) n ≡ sum_out out cs
+pub sum_stands : (out : ℕ → ℕ) (n : ℕ) (cs : List ℕ) → Once cs
+    → ((d : ℕ) → Member d cs → d < n) → total (λ w. bit (stands w cs) (out w)) n ≡ sum_out out cs
 sum_stands out n [] o below = total_none (λ w. bit false (out w)) n (λ v l. refl)
 sum_stands out n (c ∷ cs) o below =
     let ih = sum_stands out n cs o.1 (λ d m. below d (inr m)) in
     let one = total_one out c n (below c (inl refl)) in
     let none = total_none (λ w. 0) n (λ v l. refl) in
-    let both = totals_balance (λ w. bit (stands w (c ∷ cs)) (out w)) (λ w. 0) (λ w. bit (eqb c w) (out w)) (λ w. bit (stands w cs) (out w)) n
+    let both =
+    totals_balance (λ w. bit (stands w (c ∷ cs)) (out w)) (λ w. 0) (λ w. bit (eqb c w) (out w)) (λ w. bit (stands w cs) (out w)) n
     (λ w l. apart_bits (eqb c w) (stands w cs) (out w) (λ e. no_stand w cs (subst (λ v. Member v cs → ⊥) (eqb-true c w e) o.0))) in
     omega arith
 
-pub sum_children : (n : ℕ) (parent out : ℕ → ℕ) (x : ℕ) (cs : List ℕ) → out 0 ≡ 0 → Once cs → ((d : ℕ) → Member d cs ↔ (IsNode n d × (parent d ≡ x)))
+pub sum_children : (n : ℕ) (parent out : ℕ → ℕ) (x : ℕ) (cs : List ℕ)
+    → out 0 ≡ 0 → Once cs → ((d : ℕ) → Member d cs ↔ (IsNode n d × (parent d ≡ x)))
     → total (λ w. bit (eqb x (parent w)) (out w)) n ≡ sum_out out cs
 sum_children n parent out x cs zero_out o exact =
-    totals_same (λ w. bit (eqb x (parent w)) (out w)) (λ w. bit (stands w cs) (out w)) n each ∙ sum_stands out n cs o (λ d m. ((exact d).0 m).0.1)
+    totals_same (λ w. bit (eqb x (parent w)) (out w)) (λ w. bit (stands w cs) (out w)) n each
+    ∙ sum_stands out n cs o (λ d m. ((exact d).0 m).0.1)
   where
     zero_bit : (b : Bool) (w : ℕ) → out w ≡ 0 → bit b (out w) ≡ 0
     zero_bit true w e = e
@@ -44,7 +49,9 @@ sum_children n parent out x cs zero_out o exact =
       | inl e ↦ (let z = ap out e ∙ zero_out in zero_bit (eqb x (parent w)) w z ∙ sym (zero_bit (stands w cs) w z))
       | inr ne ↦ elim (cases_eq (parent w) x) [
         | inl e ↦ (let a = member_stands w cs ((exact w).1 ((omega arith, l), e)) in rw (eq-eqb x (parent w) (sym e), a) refl)
-        | inr nq ↦ (let a = no_stand w cs (λ m. nq ((exact w).0 m).1) in let b : eqb x (parent w) ≡ false = ne_eqb x (parent w) (λ e. nq (sym e)) in rw (a, b) refl)
+        | inr nq ↦
+            (let a = no_stand w cs (λ m. nq ((exact w).0 m).1) in
+            let b : eqb x (parent w) ≡ false = ne_eqb x (parent w) (λ e. nq (sym e)) in rw (a, b) refl)
       ]
     ]
 
@@ -52,8 +59,10 @@ sum_children n parent out x cs zero_out o exact =
 
 pub once_last : (xs : List ℕ) (y : ℕ) → Once xs → (Member y xs → ⊥) → Once (xs ++ y ∷ [])
 once_last [] y o none = (λ m. absurd m, tt)
-once_last (x ∷ xs) y o none =
-    (λ m. elim (member_parts x xs (y ∷ []) m) [ inl a ↦ o.0 a | inr b ↦ elim b [ inl e ↦ none (inl (sym e)) | inr z ↦ absurd z ] ], once_last xs y o.1 (λ m. none (inr m)))
+once_last (x ∷ xs) y o none = (
+  λ m. elim (member_parts x xs (y ∷ []) m) [ inl a ↦ o.0 a | inr b ↦ elim b [ inl e ↦ none (inl (sym e)) | inr z ↦ absurd z ] ],
+  once_last xs y o.1 (λ m. none (inr m)),
+)
 
 pub at_front : (xs ys : List ℕ) (k : ℕ) → k < length xs → get_or (xs ++ ys) k 0 ≡ get_or xs k 0
 at_front [] ys k l = absurd (omega arith)
@@ -100,7 +109,8 @@ at_peak n parent out need done (v ∷ vs) (suc k) z l =
 
 -- ---- the theorem
 
-module _ (n : ℕ) (parent out need best : ℕ → ℕ) (kids : ℕ → List ℕ) (forest : IsForest n parent) (zero_out : out 0 ≡ 0) (zero_need : need 0 ≡ 0)
+module _ (n : ℕ) (parent out need best : ℕ → ℕ) (kids : ℕ → List ℕ)
+    (forest : IsForest n parent) (zero_out : out 0 ≡ 0) (zero_need : need 0 ≡ 0)
     (best_at : (x : ℕ) → x < n → IsBestAt n parent out need best kids x) (order : List ℕ) (post : IsPostorder n parent order) where
   abbrev whole : List ℕ
   whole = order ++ 0 ∷ []
@@ -155,7 +165,8 @@ module _ (n : ℕ) (parent out need best : ℕ → ℕ) (kids : ℕ → List ℕ
           before = t.before;
           block = t.block;
           after = t.after ++ 0 ∷ [];
-          parts = ap (λ v. v ++ 0 ∷ []) t.parts ∙ append_assoc t.before (t.block ++ t.after) (0 ∷ []) ∙ ap (λ v. t.before ++ v) (append_assoc t.block t.after (0 ∷ []));
+          parts = ap (λ v. v ++ 0 ∷ []) t.parts ∙ append_assoc t.before (t.block ++ t.after) (0 ∷ [])
+              ∙ ap (λ v. t.before ++ v) (append_assoc t.block t.after (0 ∷ []));
           exact = λ y. (
             (λ m. let p = (t.exact y).0 m in (member_left y order (0 ∷ []) p.0, p.1)),
             (λ h. elim (member_parts y order (0 ∷ []) h.0) [
@@ -198,7 +209,8 @@ module _ (n : ℕ) (parent out need best : ℕ → ℕ) (kids : ℕ → List ℕ
   mem k = memory n parent out (take k whole)
 
   settles : (x : ℕ) (cs : List ℕ) → x < n → Once cs → ((d : ℕ) → Member d cs ↔ (IsNode n d × (parent d ≡ x)))
-      → mem (hi n parent whole inside once all early together x) + sum_out out cs ≡ mem (hi n parent whole inside once all early together x - 1) + out x
+      → mem (hi n parent whole inside once all early together x) + sum_out out cs
+      ≡ mem (hi n parent whole inside once all early together x - 1) + out x
   unfolding mem task
   settles x cs l o exact =
       let h : ℕ = hi n parent whole inside once all early together x in
@@ -206,16 +218,19 @@ module _ (n : ℕ) (parent out need best : ℕ → ℕ) (kids : ℕ → List ℕ
       let at : get_or whole (h - 1) 0 ≡ x = own n parent whole inside once all early together x l in
       let lk : h - 1 < length whole = omega arith in
       let e : h - 1 + 1 ≡ h = omega arith in
-      let more : take h whole ≡ take (h - 1) whole ++ x ∷ [] = ap (λ v. take v whole) (sym e) ∙ take_more whole (h - 1) 0 lk ∙ ap (λ v. take (h - 1) whole ++ v ∷ []) at in
+      let more : take h whole ≡ take (h - 1) whole ++ x ∷ [] =
+      ap (λ v. take v whole) (sym e) ∙ take_more whole (h - 1) 0 lk ∙ ap (λ v. take (h - 1) whole ++ v ∷ []) at in
       let s = memory-step n parent out (take (h - 1) whole) x l zero_out (next x (h - 1) l lk at) in
       let u = sum_children n parent out x cs zero_out o exact in
       let m = ap (memory n parent out) more in
       omega arith
 
-  least : (x : ℕ) (cs : List ℕ) → x < n → Once cs → ((d : ℕ) → Member d cs ↔ (IsNode n d × (parent d ≡ x))) → best x ≤ children_peak (need x) (subtrees_of best out cs)
+  least : (x : ℕ) (cs : List ℕ) → x < n → Once cs → ((d : ℕ) → Member d cs ↔ (IsNode n d × (parent d ≡ x)))
+      → best x ≤ children_peak (need x) (subtrees_of best out cs)
   least x cs l o exact =
       let b = best_at x l in
-      let r = rearranged (λ c. record { peak = best c; out = out c }) cs (kids x) o b.once (λ d m. (b.exact d).1 ((exact d).0 m)) (λ d m. (exact d).1 ((b.exact d).0 m)) in
+      let r = rearranged (λ c. record { peak = best c; out = out c }) cs (kids x) o b.once
+      (λ d m. (b.exact d).1 ((exact d).0 m)) (λ d m. (exact d).1 ((b.exact d).0 m)) in
       let f = falling_least (need x) (subtrees_of best out cs) (subtrees_of best out (kids x)) b.falling r in
       let e = b.peak in
       omega arith
@@ -225,7 +240,8 @@ module _ (n : ℕ) (parent out need best : ℕ → ℕ) (kids : ℕ → List ℕ
   best_is_least =
       let some = forest.some in
       let b = bounds n parent whole inside once all early together 0 some in
-      let r = (no_lower n parent whole inside once all early together mem need out best settles least (hi n parent whole inside once all early together 0) 0 (omega arith) some).1 in
+      let r = (no_lower n parent whole inside once all early together mem need out best settles least
+      (hi n parent whole inside once all early together 0) 0 (omega arith) some).1 in
       let k = r.0 in
       let s = size in
       let below = r.2 in

@@ -1,5 +1,6 @@
 -- The listing of a forest by rows is a postorder.
-use Rattle.std.proofs.Common.{◌≡◌, ◌≢◌, ◌∙◌, ◌↔◌, inl, inr, sym, ap, subst, ℕ, zero, suc, ◌-◌, ◌<◌, ◌≤◌, List, [], ◌∷◌, ◌++◌, length, get_or, arith, refl, append_assoc}
+use Rattle.std.proofs.Common.{◌≡◌, ◌≢◌, ◌∙◌, ◌↔◌, inl, inr, sym, ap, subst, ℕ, zero, suc, ◌-◌, ◌<◌}
+use Rattle.std.proofs.Common.{◌≤◌, List, [], ◌∷◌, ◌++◌, length, get_or, arith, refl, append_assoc}
 use Rattle.std.proofs.lemmas.List.{length-append}
 use Rattle.std.proofs.lemmas.Bool.{cases_eq, cases_lt}
 use Rattle.postorder_best.specs.BestPostorder.{Listed, node, ListedAll, none, more}
@@ -16,12 +17,14 @@ pub no_cycle : {parent : ℕ → ℕ} {y : ℕ} → Rooted parent y → 0 < y �
 no_cycle top pos u = absurd (omega arith)
 no_cycle {parent} (raise {x = y} p r) pos u = go (parent y) y (λ q w. no_cycle r q w) p u refl refl
   where
-    go : (a b : ℕ) → (0 < parent y → IsUnder parent (parent (parent y)) (parent y) → ⊥) → 0 < y → IsUnder parent a b → a ≡ parent y → b ≡ y → ⊥
+    go : (a b : ℕ) → (0 < parent y → IsUnder parent (parent (parent y)) (parent y) → ⊥)
+        → 0 < y → IsUnder parent a b → a ≡ parent y → b ≡ y → ⊥
     go a b rec p self ea eb =
         let e : y ≡ parent y = sym eb ∙ ea in
         rec (subst (λ v. 0 < v) e p) (subst (λ v. IsUnder parent v (parent y)) (ap parent e) self)
     go a b rec p (step q w) ea eb =
-        let w' : IsUnder parent (parent (parent y)) y = subst (λ v. IsUnder parent (parent (parent y)) v) eb (subst (λ v. IsUnder parent (parent v) b) ea w) in
+        let w' : IsUnder parent (parent (parent y)) y =
+        subst (λ v. IsUnder parent (parent (parent y)) v) eb (subst (λ v. IsUnder parent (parent v) b) ea w) in
         rec (subst (λ v. 0 < v) ea q) (under_trans w' (step p self))
 
 pub pos_under : {parent : ℕ → ℕ} {a d : ℕ} → IsUnder parent a d → 0 < d → 0 < a
@@ -31,18 +34,22 @@ pos_under (step q w) p = q
 at_back : (xs ys : List ℕ) (k : ℕ) → length xs ≤ k → get_or (xs ++ ys) k 0 ≡ get_or ys (k - length xs) 0
 at_back [] ys k l = let e : k - 0 ≡ k = omega arith in ap (λ v. get_or ys v 0) (sym e)
 at_back (x ∷ xs) ys zero l = absurd (omega arith)
-at_back (x ∷ xs) ys (suc k) l = let e : suc k - length (x ∷ xs) ≡ k - length xs = omega arith in at_back xs ys k (omega arith) ∙ ap (λ v. get_or ys v 0) (sym e)
+at_back (x ∷ xs) ys (suc k) l = let e : suc k - length (x ∷ xs) ≡ k - length xs = omega arith in
+    at_back xs ys k (omega arith) ∙ ap (λ v. get_or ys v 0) (sym e)
 
 once_join : (xs ys : List ℕ) → Once xs → Once ys → ((z : ℕ) → Member z xs → Member z ys → ⊥) → Once (xs ++ ys)
 once_join [] ys ox oy apart = oy
-once_join (x ∷ xs) ys ox oy apart =
-    (λ m. elim (member_parts x xs ys m) [ inl a ↦ ox.0 a | inr b ↦ apart x (inl refl) b ], once_join xs ys ox.1 oy (λ z a b. apart z (inr a) b))
+once_join (x ∷ xs) ys ox oy apart = (
+  λ m. elim (member_parts x xs ys m) [ inl a ↦ ox.0 a | inr b ↦ apart x (inl refl) b ],
+  once_join xs ys ox.1 oy (λ z a b. apart z (inr a) b),
+)
 
 -- the first of a pair stands before the second
 abbrev Early : (ℕ → ℕ) → List ℕ → Type 0
 Early parent o = (i j : ℕ) → i < length o → j < length o → parent (get_or o i 0) ≡ get_or o j 0 → i < j
 
-early_join : (parent : ℕ → ℕ) (xs ys : List ℕ) → Early parent xs → Early parent ys → ((a b : ℕ) → Member a ys → Member b xs → parent a ≡ b → ⊥) → Early parent (xs ++ ys)
+early_join : (parent : ℕ → ℕ) (xs ys : List ℕ) → Early parent xs → Early parent ys
+    → ((a b : ℕ) → Member a ys → Member b xs → parent a ≡ b → ⊥) → Early parent (xs ++ ys)
 early_join parent xs ys ex ey apart i j li lj e =
     let len = length-append xs ys in
     elim (cases_lt i (length xs)) [
@@ -53,14 +60,19 @@ early_join parent xs ys ex ey apart i j li lj e =
       | inr gi ↦ (
           let ei = at_back xs ys i gi in
           elim (cases_lt j (length xs)) [
-            | inl fj ↦ absurd (apart (get_or ys (i - length xs) 0) (get_or xs j 0) (at_member ys (i - length xs) (omega arith)) (at_member xs j fj) (ap parent (sym ei) ∙ e ∙ at_front xs ys j fj))
-            | inr gj ↦ (let r = ey (i - length xs) (j - length xs) (omega arith) (omega arith) (ap parent (sym ei) ∙ e ∙ at_back xs ys j gj) in omega arith)
+            | inl fj ↦
+                absurd (apart (get_or ys (i - length xs) 0) (get_or xs j 0) (at_member ys (i - length xs) (omega arith))
+                (at_member xs j fj) (ap parent (sym ei) ∙ e ∙ at_front xs ys j fj))
+            | inr gj ↦
+                (let r = ey (i - length xs) (j - length xs) (omega arith) (omega arith) (ap parent (sym ei) ∙ e ∙ at_back xs ys j gj) in
+                omega arith)
           ]
           )
     ]
 
 module _ (n : ℕ) (parent : ℕ → ℕ) (kids : ℕ → List ℕ) (forest : IsForest n parent)
-    (exact : (x : ℕ) → x < n → (c : ℕ) → Member c (kids x) ↔ (IsNode n c × (parent c ≡ x))) (once_kids : (x : ℕ) → x < n → Once (kids x)) where
+    (exact : (x : ℕ) → x < n → (c : ℕ) → Member c (kids x) ↔ (IsNode n c × (parent c ≡ x)))
+    (once_kids : (x : ℕ) → x < n → Once (kids x)) where
   abbrev pub Below : ℕ → List ℕ → Type 0
   Below y cs = (c : ℕ) × Member c cs × IsUnder parent y c
 
@@ -95,7 +107,10 @@ module _ (n : ℕ) (parent : ℕ → ℕ) (kids : ℕ → List ℕ) (forest : Is
     one_members x o (node {x = x'} {o = p} all) l y =
         let rec = all_members x' (kids x') p all l (row_of x' l) y in (
           (λ m. elim (member_parts y p (x' ∷ []) m) [
-            | inl a ↦ (let b = rec.0 a in (b.0, under_trans b.1.2 (let k = (exact x' l b.1.0).0 b.1.1 in step k.0.0 (subst (λ v. IsUnder parent v x') (sym k.1) self))))
+            | inl a ↦ (let b = rec.0 a in (
+              b.0,
+              under_trans b.1.2 (let k = (exact x' l b.1.0).0 b.1.1 in step k.0.0 (subst (λ v. IsUnder parent v x') (sym k.1) self)),
+            ))
             | inr b ↦ elim b [ inl e ↦ (subst (λ v. v < n) (sym e) l, subst (λ v. IsUnder parent v x') (sym e) self) | inr z ↦ absurd z ]
           ]),
           (λ h. elim (cases_eq y x') [
@@ -143,14 +158,16 @@ module _ (n : ℕ) (parent : ℕ → ℕ) (kids : ℕ → List ℕ) (forest : Is
     all_once x cs o none l r = tt
     all_once x cs o (more {c = c} {cs = ds} {o = p} {os = q} first others) l r =
         once_join p q (one_once c p first (r.0 c (inl refl)).0) (all_once x ds q others l (row_tail x c ds r)) (λ z a b.
-        apart_rows x c ds r z ((one_members c p first (r.0 c (inl refl)).0.1 z).0 a).1 ((all_members x ds q others l (row_tail x c ds r) z).0 b).1)
+        apart_rows x c ds r z ((one_members c p first (r.0 c (inl refl)).0.1 z).0 a).1
+        ((all_members x ds q others l (row_tail x c ds r) z).0 b).1)
 
   mutual
     one_early : (x : ℕ) (o : List ℕ) → Listed kids x o → IsNode n x → Early parent o
     one_early x o (node {x = x'} {o = p} all) nx =
         early_join parent p (x' ∷ []) (all_early x' (kids x') p all nx.1 (row_of x' nx.1))
         (λ i j li lj e. let zi : i ≡ 0 = omega arith in let zj : j ≡ 0 = omega arith in
-        absurd (no_cycle (forest.rooted x' nx.1) nx.0 (subst (λ v. IsUnder parent v x') (sym (ap (λ k. parent (get_or (x' ∷ []) k 0)) (sym zi) ∙ e ∙ ap (λ k. get_or (x' ∷ []) k 0) zj)) self)))
+        absurd (no_cycle (forest.rooted x' nx.1) nx.0 (subst (λ v. IsUnder parent v x')
+        (sym (ap (λ k. parent (get_or (x' ∷ []) k 0)) (sym zi) ∙ e ∙ ap (λ k. get_or (x' ∷ []) k 0) zj)) self)))
         (λ a b ma mb e. elim ma [
           | inl ea ↦ (
               let w = ((all_members x' (kids x') p all nx.1 (row_of x' nx.1) b).0 mb).1 in
@@ -180,18 +197,22 @@ module _ (n : ℕ) (parent : ℕ → ℕ) (kids : ℕ → List ℕ) (forest : Is
         block = p ++ x' ∷ [];
         after = [];
         parts = sym (nil_right (p ++ x' ∷ []));
-        exact = λ y. ((λ m. (m, subst (λ v. IsUnder parent y v) (sym e) ((one_members x' (p ++ x' ∷ []) (node all) nx.1 y).0 m).1)), λ h. h.0);
+        exact =
+            λ y. ((λ m. (m, subst (λ v. IsUnder parent y v) (sym e) ((one_members x' (p ++ x' ∷ []) (node all) nx.1 y).0 m).1)), λ h. h.0);
       }
       | inr ne ↦ (
           let c = child_on u ne in
           let m = ((one_members x' (p ++ x' ∷ []) (node all) nx.1 z).1 (lz, u)) in
-          let mp : Member z p = elim (member_parts z p (x' ∷ []) m) [ inl a ↦ a | inr b ↦ elim b [ inl e ↦ absurd (ne e) | inr w ↦ absurd w ] ] in
-          let t = all_together x' (kids x') p all nx.1 (row_of x' nx.1) z lz ((all_members x' (kids x') p all nx.1 (row_of x' nx.1) z).0 mp).1 in
+          let mp : Member z p =
+          elim (member_parts z p (x' ∷ []) m) [ inl a ↦ a | inr b ↦ elim b [ inl e ↦ absurd (ne e) | inr w ↦ absurd w ] ] in
+          let t = all_together x' (kids x') p all nx.1 (row_of x' nx.1) z lz
+          ((all_members x' (kids x') p all nx.1 (row_of x' nx.1) z).0 mp).1 in
           record {
             before = t.before;
             block = t.block;
             after = t.after ++ x' ∷ [];
-            parts = ap (λ v. v ++ x' ∷ []) t.parts ∙ append_assoc t.before (t.block ++ t.after) (x' ∷ []) ∙ ap (λ v. t.before ++ v) (append_assoc t.block t.after (x' ∷ []));
+            parts = ap (λ v. v ++ x' ∷ []) t.parts ∙ append_assoc t.before (t.block ++ t.after) (x' ∷ [])
+                ∙ ap (λ v. t.before ++ v) (append_assoc t.block t.after (x' ∷ []));
             exact = λ y. (
               (λ k. let h = (t.exact y).0 k in (member_left y p (x' ∷ []) h.0, h.1)),
               (λ h. elim (member_parts y p (x' ∷ []) h.0) [
@@ -210,7 +231,8 @@ module _ (n : ℕ) (parent : ℕ → ℕ) (kids : ℕ → List ℕ) (forest : Is
         back_up x z nx ne self u = ne refl
         back_up x z nx ne (step pos w) u = no_cycle (forest.rooted x nx.1) nx.0 (under_trans w u)
 
-    all_together : (x : ℕ) (cs o : List ℕ) → ListedAll kids cs o → x < n → Row x cs → (z : ℕ) → z < n → Below z cs → StandsTogether parent o z
+    all_together : (x : ℕ) (cs o : List ℕ) → ListedAll kids cs o → x < n
+        → Row x cs → (z : ℕ) → z < n → Below z cs → StandsTogether parent o z
     all_together x cs o none l r z lz b = absurd b.1
     all_together x cs o (more {c = c} {cs = ds} {o = p} {os = q} first others) l r z lz b = elim b.1 [
       | inl e ↦ (
@@ -220,7 +242,8 @@ module _ (n : ℕ) (parent : ℕ → ℕ) (kids : ℕ → List ℕ) (forest : Is
             before = t.before;
             block = t.block;
             after = t.after ++ q;
-            parts = ap (λ v. v ++ q) t.parts ∙ append_assoc t.before (t.block ++ t.after) q ∙ ap (λ v. t.before ++ v) (append_assoc t.block t.after q);
+            parts = ap (λ v. v ++ q) t.parts ∙ append_assoc t.before (t.block ++ t.after) q
+                ∙ ap (λ v. t.before ++ v) (append_assoc t.block t.after q);
             exact = λ y. (
               (λ k. let h = (t.exact y).0 k in (member_left y p q h.0, h.1)),
               (λ h. elim (member_parts y p q h.0) [
@@ -240,7 +263,8 @@ module _ (n : ℕ) (parent : ℕ → ℕ) (kids : ℕ → List ℕ) (forest : Is
             exact = λ y. (
               (λ k. let h = (t.exact y).0 k in (member_right y p q h.0, h.1)),
               (λ h. elim (member_parts y p q h.0) [
-                | inl a ↦ absurd (apart_rows x c ds r y ((one_members c p first (r.0 c (inl refl)).0.1 y).0 a).1 (b.0, m, under_trans h.1 b.2))
+                | inl a ↦
+                    absurd (apart_rows x c ds r y ((one_members c p first (r.0 c (inl refl)).0.1 y).0 a).1 (b.0, m, under_trans h.1 b.2))
                 | inr a ↦ (t.exact y).1 (a, h.1)
               ]),
             );

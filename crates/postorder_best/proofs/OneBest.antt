@@ -1,9 +1,11 @@
 -- A tree has one best postorder.
-use Rattle.std.proofs.Common.{◌≡◌, ◌∙◌, ◌⊎◌, ◌↔◌, inl, inr, sym, ap, ap₂, subst, ℕ, zero, suc, ◌+◌, ◌-◌, ◌<◌, ◌≤◌, List, [], ◌∷◌, ◌++◌, length, arith, refl}
+use Rattle.std.proofs.Common.{◌≡◌, ◌∙◌, ◌⊎◌, ◌↔◌, inl, inr, sym, ap, ap₂, subst, ℕ, zero, suc}
+use Rattle.std.proofs.Common.{◌+◌, ◌-◌, ◌<◌, ◌≤◌, List, [], ◌∷◌, ◌++◌, length, arith, refl}
 use Rattle.trees.specs.declared.node.Node.{Node}
 use Rattle.trees.specs.Tree.{IsTree, parent_of_node}
 use Rattle.postorder_best.specs.Postorder.{Member}
-use Rattle.postorder_best.specs.BestPostorder.{Child, out_at, need_at, children_peak, subtrees_of, ComesBefore, ComesBeforeAll, IsBestRow, Listed, node, ListedAll, none, more, IsBestAt, IsBestPostorder}
+use Rattle.postorder_best.specs.BestPostorder.{Child, out_at, need_at, children_peak, subtrees_of, ComesBefore, ComesBeforeAll}
+use Rattle.postorder_best.specs.BestPostorder.{IsBestRow, Listed, node, ListedAll, none, more, IsBestAt, IsBestPostorder}
 use Rattle.postorder_best.proofs.Forest.{IsNode}
 use Rattle.postorder_best.proofs.Exists.{weight, lighter}
 use Rattle.postorder_best.proofs.TreeLinks.{forest_of}
@@ -12,7 +14,8 @@ use Rattle.postorder_best.proofs.Theorem.{best_once}
 
 -- ---- rows with the same members and the same peaks are the same
 
-leads_along : (p q out : ℕ → ℕ) (a : ℕ) (cs : List ℕ) → p a ≡ q a → ((c : ℕ) → Member c cs → p c ≡ q c) → ComesBeforeAll p out a cs → ComesBeforeAll q out a cs
+leads_along : (p q out : ℕ → ℕ) (a : ℕ) (cs : List ℕ) → p a ≡ q a
+    → ((c : ℕ) → Member c cs → p c ≡ q c) → ComesBeforeAll p out a cs → ComesBeforeAll q out a cs
 leads_along p q out a [] here same h = tt
 leads_along p q out a (c ∷ cs) here same h = (
   subst (λ v. (v - out c < q a - out a) ⊎ ((q a - out a ≡ v - out c) × (a < c))) (same c (inl refl))
@@ -22,7 +25,8 @@ leads_along p q out a (c ∷ cs) here same h = (
 
 row_along : (p q out : ℕ → ℕ) (cs : List ℕ) → ((c : ℕ) → Member c cs → p c ≡ q c) → IsBestRow p out cs → IsBestRow q out cs
 row_along p q out [] same h = tt
-row_along p q out (c ∷ cs) same h = (leads_along p q out c cs (same c (inl refl)) (λ d m. same d (inr m)) h.0, row_along p q out cs (λ d m. same d (inr m)) h.1)
+row_along p q out (c ∷ cs) same h =
+    (leads_along p q out c cs (same c (inl refl)) (λ d m. same d (inr m)) h.0, row_along p q out cs (λ d m. same d (inr m)) h.1)
 
 before_it : (p out : ℕ → ℕ) (a b : ℕ) (cs : List ℕ) → ComesBeforeAll p out a cs → Member b cs → ComesBefore p out a b
 before_it p out a b [] h m = absurd m
@@ -34,7 +38,8 @@ not_both g h a b (inl l) (inr k) = let e = k.0 in absurd (omega arith)
 not_both g h a b (inr l) (inl k) = let e = l.0 in absurd (omega arith)
 not_both g h a b (inr l) (inr k) = let e = l.1 in let f = k.1 in absurd (omega arith)
 
-same_row : (p out : ℕ → ℕ) (xs ys : List ℕ) → IsBestRow p out xs → IsBestRow p out ys → ((c : ℕ) → Member c xs → Member c ys) → ((c : ℕ) → Member c ys → Member c xs) → xs ≡ ys
+same_row : (p out : ℕ → ℕ) (xs ys : List ℕ) → IsBestRow p out xs → IsBestRow p out ys
+    → ((c : ℕ) → Member c xs → Member c ys) → ((c : ℕ) → Member c ys → Member c xs) → xs ≡ ys
 same_row p out [] [] bx by to from = refl
 same_row p out [] (y ∷ ys) bx by to from = absurd (from y (inl refl))
 same_row p out (x ∷ xs) [] bx by to from = absurd (to x (inl refl))
@@ -55,7 +60,8 @@ same_row p out (x ∷ xs) (y ∷ ys) bx by to from =
 
 same_children : (p q out : ℕ → ℕ) (cs : List ℕ) → ((c : ℕ) → Member c cs → p c ≡ q c) → subtrees_of p out cs ≡ subtrees_of q out cs
 same_children p q out [] same = refl
-same_children p q out (c ∷ cs) same = ap₂ (λ v (xs : List Child). record { peak = v; out = out c } ∷ xs) (same c (inl refl)) (same_children p q out cs (λ d m. same d (inr m)))
+same_children p q out (c ∷ cs) same = ap₂ (λ v (xs : List Child). record { peak = v; out = out c } ∷ xs)
+    (same c (inl refl)) (same_children p q out cs (λ d m. same d (inr m)))
 
 -- ---- what is listed, taken apart
 
@@ -66,7 +72,8 @@ parts_none : (row : ℕ → List ℕ) (cs o : List ℕ) → cs ≡ [] → Listed
 parts_none row cs o e none = refl
 parts_none row cs o e (more {c = c} {cs = ds} first others) = absurd (let l = ap length e in omega arith)
 
-parts_more : (row : ℕ → List ℕ) (ds o : List ℕ) (c : ℕ) (cs : List ℕ) → ds ≡ c ∷ cs → ListedAll row ds o → (p q : List ℕ) × Listed row c p × ListedAll row cs q × (o ≡ p ++ q)
+parts_more : (row : ℕ → List ℕ) (ds o : List ℕ) (c : ℕ) (cs : List ℕ) → ds ≡ c ∷ cs
+    → ListedAll row ds o → (p q : List ℕ) × Listed row c p × ListedAll row cs q × (o ≡ p ++ q)
 parts_more row ds o c cs e none = absurd (let l = ap length e in omega arith)
 parts_more row ds o c cs e (more {c = d} {cs = es} {o = p} {os = q} first others) =
     let heads : d ≡ c = cc in
@@ -93,12 +100,17 @@ module _ (nodes : List Node) (tree : IsTree nodes) (p q : ℕ → ℕ) (row othe
       let below = λ (c : ℕ) (k : Member c (row x)).
       let h = (a.children c).0 k in
       let node = h.0 in
-      let lighter_c = lighter (length nodes + 1) (parent_of_node nodes) row (forest_of nodes tree) exact x c (omega arith) (inner nodes c h.0) h.1 in
+      let lighter_c =
+      lighter (length nodes + 1) (parent_of_node nodes) row (forest_of nodes tree) exact x c (omega arith) (inner nodes c h.0) h.1 in
       (agree m c node.1 (omega arith)).1 in
-      let rows : row x ≡ other x = same_row q (out_at nodes) (row x) (other x) (row_along p q (out_at nodes) (row x) below a.in_order) b.in_order
+      let rows : row x ≡ other x =
+      same_row q (out_at nodes) (row x) (other x) (row_along p q (out_at nodes) (row x) below a.in_order) b.in_order
       (λ c k. (b.children c).1 ((a.children c).0 k)) (λ c k. (a.children c).1 ((b.children c).0 k)) in (
         rows,
-        a.reaches ∙ ap (children_peak (need_at nodes x)) (same_children p q (out_at nodes) (row x) below ∙ ap (subtrees_of q (out_at nodes)) rows) ∙ sym b.reaches,
+        a.reaches
+            ∙ ap (children_peak (need_at nodes x))
+            (same_children p q (out_at nodes) (row x) below ∙ ap (subtrees_of q (out_at nodes)) rows)
+            ∙ sym b.reaches,
       )
 
   same_rows : (x : ℕ) → x ≤ length nodes → row x ≡ other x
@@ -108,17 +120,23 @@ module _ (nodes : List Node) (tree : IsTree nodes) (p q : ℕ → ℕ) (row othe
     same_one : (x : ℕ) (o o' : List ℕ) → x ≤ length nodes → Listed row x o → Listed other x o' → o ≡ o'
     same_one x o o' le (node {x = y} {o = os} all) l =
         let w = parts_one other y o' l in
-        ap (λ (v : List ℕ). v ++ y ∷ []) (same_all (row y) os w.0 (λ c m. let h = ((one y le).children c).0 m in h.0.1) all (subst (λ (v : List ℕ). ListedAll other v w.0) (sym (same_rows y le)) w.1)) ∙ sym w.2
+        ap (λ (v : List ℕ). v ++ y ∷ [])
+        (same_all (row y) os w.0 (λ c m. let h = ((one y le).children c).0 m in h.0.1) all
+        (subst (λ (v : List ℕ). ListedAll other v w.0) (sym (same_rows y le)) w.1))
+        ∙ sym w.2
 
     same_all : (cs o o' : List ℕ) → ((c : ℕ) → Member c cs → c ≤ length nodes) → ListedAll row cs o → ListedAll other cs o' → o ≡ o'
     same_all cs o o' low none l = sym (parts_none other [] o' refl l)
     same_all cs o o' low (more {c = c} {cs = ds} {o = u} {os = v} first others) l =
         let w = parts_more other (c ∷ ds) o' c ds refl l in
-        ap₂ (λ (s t : List ℕ). s ++ t) (same_one c u w.0 (low c (inl refl)) first w.2) (same_all ds v w.1 (λ d m. low d (inr m)) others w.3) ∙ sym w.4
+        ap₂ (λ (s t : List ℕ). s ++ t) (same_one c u w.0 (low c (inl refl)) first w.2)
+        (same_all ds v w.1 (λ d m. low d (inr m)) others w.3)
+        ∙ sym w.4
 
   pub same_order : (o o' : List ℕ) → ListedAll row (row 0) o → ListedAll other (other 0) o' → o ≡ o'
   same_order o o' l l' =
-      same_all (row 0) o o' (λ c m. let h = ((one 0 (omega arith)).children c).0 m in h.0.1) l (subst (λ (v : List ℕ). ListedAll other v o') (sym (same_rows 0 (omega arith))) l')
+      same_all (row 0) o o' (λ c m. let h = ((one 0 (omega arith)).children c).0 m in h.0.1) l
+      (subst (λ (v : List ℕ). ListedAll other v o') (sym (same_rows 0 (omega arith))) l')
 
 pub one_best : (nodes : List Node) (one two : List ℕ) → IsTree nodes → IsBestPostorder nodes one → IsBestPostorder nodes two → one ≡ two
 one_best nodes one two tree a b = same_order nodes tree a.peak b.peak a.row b.row a.each b.each one two a.listed b.listed

@@ -33,14 +33,16 @@ module _ (nodes : List Node) where
   node_task : (v : ℕ) → tree.IsNode nodes v → IsTask (system_of_nodes nodes) v
   node_task v node = let e = length-map nodes task_of_node in let a = node.0 in let b = node.1 in (omega arith, omega arith)
 
-  pub to_system : (order : List ℕ) → IsTraversal (length nodes + 1) (parent_of_node nodes) order → system.IsTraversal (system_of_nodes nodes) order
+  pub to_system : (order : List ℕ) → IsTraversal (length nodes + 1) (parent_of_node nodes) order
+      → system.IsTraversal (system_of_nodes nodes) order
   to_system order t = record {
     once = λ v task. (
         let a = member_count v order ((t.all v).0 (inner v (task_node v task))) in
         let b = once_count v order t.once in
         omega arith
         );
-    tasks = λ k d lt. subst (λ v. IsTask (system_of_nodes nodes) v) (get_or_default order k 0 d lt) (node_task (get_or order k 0) (outer (get_or order k 0) ((t.all (get_or order k 0)).1 (at_member order k lt))));
+    tasks = λ k d lt. subst (λ v. IsTask (system_of_nodes nodes) v) (get_or_default order k 0 d lt)
+        (node_task (get_or order k 0) (outer (get_or order k 0) ((t.all (get_or order k 0)).1 (at_member order k lt))));
     after_suppliers = λ before rest v e.
         let mv : Member v order = subst (λ (xs : List ℕ). Member v xs) (sym e) (member_right v before (v ∷ rest) (inl refl)) in
         let nv = (t.all v).1 mv in
@@ -53,10 +55,12 @@ module _ (nodes : List Node) where
         member_stands w before (subst (λ u. Member u before) is (at_member before p.0 lt)));
   }
 
-  member_task : (order : List ℕ) → system.IsTraversal (system_of_nodes nodes) order → (v : ℕ) → Member v order → IsTask (system_of_nodes nodes) v
+  member_task : (order : List ℕ) → system.IsTraversal (system_of_nodes nodes) order
+      → (v : ℕ) → Member v order → IsTask (system_of_nodes nodes) v
   member_task order t v m = let p = place_of v order m in subst (λ u. IsTask (system_of_nodes nodes) u) p.2 (t.tasks p.0 0 p.1)
 
-  pub from_system : (order : List ℕ) → system.IsTraversal (system_of_nodes nodes) order → IsTraversal (length nodes + 1) (parent_of_node nodes) order
+  pub from_system : (order : List ℕ) → system.IsTraversal (system_of_nodes nodes) order
+      → IsTraversal (length nodes + 1) (parent_of_node nodes) order
   from_system order t =
       let once = count_once order (λ v m. let e = t.once v (member_task order t v m) in omega arith) in
       record {
@@ -66,7 +70,8 @@ module _ (nodes : List Node) where
           (λ m. inner x (task_node x (member_task order t x m))),
         );
         early = λ i j li lj e.
-            let cut : order ≡ take j order ++ get_or order j 0 ∷ drop (j + 1) order = sym (take-append-drop j order) ∙ ap (λ v. take j order ++ v) (drop_more order j 0 lj) in
+            let cut : order ≡ take j order ++ get_or order j 0 ∷ drop (j + 1) order =
+            sym (take-append-drop j order) ∙ ap (λ v. take j order ++ v) (drop_more order j 0 lj) in
             let ready = t.after_suppliers (take j order) (drop (j + 1) order) (get_or order j 0) cut in
             let nj = task_node (get_or order j 0) (t.tasks j 0 lj) in
             let ni = task_node (get_or order i 0) (t.tasks i 0 li) in
@@ -83,5 +88,6 @@ module _ (nodes : List Node) where
   pub from_public : (order : List ℕ) → public.IsTreePostorder nodes order → IsPostorder (length nodes + 1) (parent_of_node nodes) order
   from_public order p = record { traversal = from_system order p.traversal; together = λ x node. p.together x (outer x node) }
 
-  pub member_node : (order : List ℕ) → IsTraversal (length nodes + 1) (parent_of_node nodes) order → (v : ℕ) → Member v order → tree.IsNode nodes v
+  pub member_node : (order : List ℕ) → IsTraversal (length nodes + 1) (parent_of_node nodes) order
+      → (v : ℕ) → Member v order → tree.IsNode nodes v
   member_node order t v m = outer v ((t.all v).1 m)

@@ -1,5 +1,6 @@
 -- Members of a list and their places.
-use Rattle.std.proofs.Common.{sym, ◌∙◌, subst, ap, ◌+◌, ◌-◌, ◌≡◌, ◌⊎◌, inl, inr, ℕ, zero, suc, ◌<◌, ◌≤◌, arith, refl, List, [], ◌∷◌, ◌++◌, length, get_or}
+use Rattle.std.proofs.Common.{sym, ◌∙◌, subst, ap, ◌+◌, ◌-◌, ◌≡◌, ◌⊎◌, inl, inr, ℕ, zero, suc}
+use Rattle.std.proofs.Common.{◌<◌, ◌≤◌, arith, refl, List, [], ◌∷◌, ◌++◌, length, get_or}
 use Rattle.postorder_best.specs.Postorder.{Member}
 use Rattle.postorder_best.specs.Rows.{Once}
 
@@ -13,7 +14,8 @@ member_right x (z ∷ xs) ys m = inr (member_right x xs ys m)
 
 pub member_parts : (x : ℕ) (xs ys : List ℕ) → Member x (xs ++ ys) → Member x xs ⊎ Member x ys
 member_parts x [] ys m = inr m
-member_parts x (z ∷ xs) ys m = elim m [ inl e ↦ inl (inl e) | inr r ↦ elim (member_parts x xs ys r) [ inl a ↦ inl (inr a) | inr b ↦ inr b ] ]
+member_parts x (z ∷ xs) ys m =
+    elim m [ inl e ↦ inl (inl e) | inr r ↦ elim (member_parts x xs ys r) [ inl a ↦ inl (inr a) | inr b ↦ inr b ] ]
 
 pub at_member : (xs : List ℕ) (k : ℕ) → k < length xs → Member (get_or xs k 0) xs
 at_member [] k lt = absurd (omega arith)
@@ -35,7 +37,8 @@ one_place (x ∷ xs) (suc i) zero o li lj e = absurd (o.0 (subst (λ v. Member v
 one_place (x ∷ xs) (suc i) (suc j) o li lj e = let r = one_place xs i j o.1 (omega arith) (omega arith) e in omega arith
 
 -- what stands in the middle part stands at its places
-pub at_middle : (before block after : List ℕ) (k : ℕ) → length before ≤ k → k < length before + length block → get_or (before ++ (block ++ after)) k 0 ≡ get_or block (k - length before) 0
+pub at_middle : (before block after : List ℕ) (k : ℕ) → length before ≤ k → k < length before + length block
+    → get_or (before ++ (block ++ after)) k 0 ≡ get_or block (k - length before) 0
 at_middle [] [] after k low high = absurd (omega arith)
 at_middle [] (b ∷ bs) after zero low high = refl
 at_middle [] (b ∷ bs) after (suc k) low high =
@@ -47,13 +50,19 @@ at_middle (x ∷ xs) block after (suc k) low high =
     let e : suc k - length (x ∷ xs) ≡ k - length xs = omega arith in
     at_middle xs block after k (omega arith) (omega arith) ∙ ap (λ v. get_or block v 0) (sym e)
 
-pub middle_member : (before block after : List ℕ) (k : ℕ) → length before ≤ k → k < length before + length block → Member (get_or (before ++ (block ++ after)) k 0) block
+pub middle_member : (before block after : List ℕ) (k : ℕ) → length before ≤ k
+    → k < length before + length block → Member (get_or (before ++ (block ++ after)) k 0) block
 middle_member before block after k low high =
     subst (λ v. Member v block) (sym (at_middle before block after k low high)) (at_member block (k - length before) (omega arith))
 
-pub middle_place : (x : ℕ) (before block after : List ℕ) → Member x block → (k : ℕ) × (length before ≤ k) × (k < length before + length block) × (get_or (before ++ (block ++ after)) k 0 ≡ x)
+pub middle_place : (x : ℕ) (before block after : List ℕ) → Member x block
+    → (k : ℕ) × (length before ≤ k) × (k < length before + length block) × (get_or (before ++ (block ++ after)) k 0 ≡ x)
 middle_place x before block after m =
     let p = place_of x block m in
     let l = p.1 in
-    let e : length before + p.0 - length before ≡ p.0 = omega arith in
-    (length before + p.0, omega arith, omega arith, at_middle before block after (length before + p.0) (omega arith) (omega arith) ∙ ap (λ v. get_or block v 0) e ∙ p.2)
+    let e : length before + p.0 - length before ≡ p.0 = omega arith in (
+      length before + p.0,
+      omega arith,
+      omega arith,
+      at_middle before block after (length before + p.0) (omega arith) (omega arith) ∙ ap (λ v. get_or block v 0) e ∙ p.2,
+    )

@@ -1,5 +1,6 @@
 -- A postorder, by spans of places.
-use Rattle.std.proofs.Common.{sym, ◌∙◌, subst, ap, ◌+◌, ◌-◌, ◌≡◌, ◌≢◌, ◌↔◌, ◌⊎◌, inl, inr, ℕ, zero, suc, ◌<◌, ◌≤◌, arith, refl, List, [], ◌∷◌, length, get_or}
+use Rattle.std.proofs.Common.{sym, ◌∙◌, subst, ap, ◌+◌, ◌-◌, ◌≡◌, ◌≢◌, ◌↔◌, ◌⊎◌, inl, inr, ℕ, zero}
+use Rattle.std.proofs.Common.{suc, ◌<◌, ◌≤◌, arith, refl, List, [], ◌∷◌, length, get_or}
 use Rattle.std.proofs.lemmas.List.{length-append}
 use Rattle.std.proofs.lemmas.Bool.{cases_eq, cases_lt}
 use Rattle.postorder_best.specs.BestPostorder.{children_peak, subtrees_of}
@@ -108,7 +109,8 @@ module _ (n : ℕ) (parent : ℕ → ℕ) (order : List ℕ)
       go : (a b i : ℕ) → IsUnder parent a b → i < length order → j < length order → get_or order i 0 ≡ a → get_or order j 0 ≡ b → i ≤ j
       go a b i self li lj ea eb = let e = one_place order i j once li lj (ea ∙ sym eb) in omega arith
       go a b i (step pos p) li lj ea eb =
-          let q = place_of (parent a) order ((all (parent a)).0 (inside a pos (subst (λ v. v < n) ea ((all (get_or order i 0)).1 (at_member order i li))))) in
+          let q = place_of (parent a) order
+          ((all (parent a)).0 (inside a pos (subst (λ v. v < n) ea ((all (get_or order i 0)).1 (at_member order i li))))) in
           let lt = early i q.0 li q.1 (subst (λ v. 0 < v) (sym ea) pos) (ap parent ea ∙ sym q.2) in
           let r = go (parent a) b q.0 p q.1 lj q.2 eb in
           omega arith
@@ -119,7 +121,8 @@ module _ (n : ℕ) (parent : ℕ → ℕ) (order : List ℕ)
       let p = place_of c order ((all c).0 l) in
       let q = place_of (parent c) order ((all (parent c)).0 (inside c pos l)) in
       let lt = early p.0 q.0 p.1 q.1 (subst (λ v. 0 < v) (sym p.2) pos) (ap parent p.2 ∙ sym q.2) in
-      let le = later q.0 p.0 q.1 p.1 (subst (λ v. IsUnder parent v (get_or order p.0 0)) (sym q.2) (subst (λ v. IsUnder parent (parent c) v) (sym p.2) u)) in
+      let le = later q.0 p.0 q.1 p.1
+      (subst (λ v. IsUnder parent v (get_or order p.0 0)) (sym q.2) (subst (λ v. IsUnder parent (parent c) v) (sym p.2) u)) in
       omega arith
 
   pub acyclic : (c : ℕ) → 0 < c → c < n → c ≢ parent c
@@ -175,7 +178,8 @@ module _ (n : ℕ) (parent : ℕ → ℕ) (order : List ℕ)
   ends c x pc px e =
       let b = bounds c pc.1 in
       let t = own c pc.1 in
-      let up : IsUnder parent (task (hi c - 1)) x = subst (λ v. IsUnder parent v x) (sym t) (step pc.0 (subst (λ v. IsUnder parent v x) (sym e) self)) in
+      let up : IsUnder parent (task (hi c - 1)) x =
+      subst (λ v. IsUnder parent v x) (sym t) (step pc.0 (subst (λ v. IsUnder parent v x) (sym e) self)) in
       let w = (outer x (hi c - 1) (omega arith) up).1 in
       let ne : hi c ≢ hi x = λ q. acyclic c pc.0 pc.1 (sym t ∙ ap (λ v. task (v - 1)) q ∙ own x px ∙ sym e) in
       omega arith
@@ -196,7 +200,10 @@ module _ (n : ℕ) (parent : ℕ → ℕ) (order : List ℕ)
             let node = closed (task p) child.0 child.1 (real p pl) in
             let c = child.0 in
             let inside_c = outer child.0 p pl child.1 in
-            let here : lo child.0 ≡ p = elim (begins child.0 (child.3, node) child.2) [ inl l ↦ absurd (let w = inside_c.1 in omega arith) | inr l ↦ let w = inside_c.0 in omega arith ] in
+            let here : lo child.0 ≡ p = elim (begins child.0 (child.3, node) child.2) [
+              | inl l ↦ absurd (let w = inside_c.1 in omega arith)
+              | inr l ↦ let w = inside_c.0 in omega arith
+            ] in
             let z = ends child.0 x (child.3, node) pos child.2 in
             let bc = bounds child.0 node in
             let rest = chain m x (hi child.0) pos (omega arith) (omega arith) z (λ d pd ed.
@@ -214,8 +221,11 @@ module _ (n : ℕ) (parent : ℕ → ℕ) (order : List ℕ)
                   | inr w ↦ inr w
                 ]
               ]
-            ]) in
-            (child.0 ∷ rest.0, subst (λ v. Chain n parent lo hi x (hi x - 1) v (child.0 ∷ rest.0)) here (block {c = child.0} {cs = rest.0} (child.3, node) child.2 rest.1))
+            ]) in (
+              child.0 ∷ rest.0,
+              subst (λ v. Chain n parent lo hi x (hi x - 1) v (child.0 ∷ rest.0)) here
+                  (block {c = child.0} {cs = rest.0} (child.3, node) child.2 rest.1),
+            )
       ]
 
   child_low : (c x : ℕ) → IsNode n c → x < n → parent c ≡ x → lo x ≤ lo c
@@ -225,11 +235,13 @@ module _ (n : ℕ) (parent : ℕ → ℕ) (order : List ℕ)
       (outer x (lo d) (omega arith) (under_trans s (step pd.0 (subst (λ v. IsUnder parent v x) (sym ed) self)))).0
 
   pub blocks : (x : ℕ) → x < n → (cs : List ℕ) × Chain n parent lo hi x (hi x - 1) (lo x) cs
-  blocks x pos = let b = bounds x pos in chain (hi x) x (lo x) pos (omega arith) (omega arith) (omega arith) (λ d pd ed. inr (child_low d x pd pos ed))
+  blocks x pos = let b = bounds x pos in
+      chain (hi x) x (lo x) pos (omega arith) (omega arith) (omega arith) (λ d pd ed. inr (child_low d x pd pos ed))
 
   -- ---- the blocks are the children, each once
 
-  chain_member : (x e p : ℕ) (cs : List ℕ) → Chain n parent lo hi x e p cs → (c : ℕ) → Member c cs → (p ≤ lo c) × (parent c ≡ x) × IsNode n c
+  chain_member : (x e p : ℕ) (cs : List ℕ) → Chain n parent lo hi x e p cs
+      → (c : ℕ) → Member c cs → (p ≤ lo c) × (parent c ≡ x) × IsNode n c
   chain_member x e p cs done c m = absurd m
   chain_member x e p cs (block {c = b} {cs = bs} pos up q) c m =
       let w = bounds b pos.1 in
@@ -244,7 +256,8 @@ module _ (n : ℕ) (parent : ℕ → ℕ) (order : List ℕ)
       let w = bounds b pos.1 in
       (λ m. let k = (chain_member x e (hi b) bs q b m).0 in absurd (omega arith), chain_once x e (hi b) bs q)
 
-  chain_covers : (x e p : ℕ) (cs : List ℕ) → Chain n parent lo hi x e p cs → (d : ℕ) → IsNode n d → parent d ≡ x → p ≤ lo d → lo d < e → Member d cs
+  chain_covers : (x e p : ℕ) (cs : List ℕ) → Chain n parent lo hi x e p cs
+      → (d : ℕ) → IsNode n d → parent d ≡ x → p ≤ lo d → lo d < e → Member d cs
   chain_covers x e p cs done d pos up le lt = absurd (omega arith)
   chain_covers x e p cs (block {c = b} {cs = bs} pb ub q) d pos up le lt =
       elim (cases_lt (lo d) (hi b)) [
@@ -256,7 +269,8 @@ module _ (n : ℕ) (parent : ℕ → ℕ) (order : List ℕ)
         | inr l ↦ inr (chain_covers x e (hi b) bs q d pos up l lt)
       ]
 
-  pub covers : (x : ℕ) (cs : List ℕ) → x < n → Chain n parent lo hi x (hi x - 1) (lo x) cs → Once cs × ((d : ℕ) → Member d cs ↔ (IsNode n d × (parent d ≡ x)))
+  pub covers : (x : ℕ) (cs : List ℕ) → x < n → Chain n parent lo hi x (hi x - 1) (lo x) cs
+      → Once cs × ((d : ℕ) → Member d cs ↔ (IsNode n d × (parent d ≡ x)))
   covers x cs pos q = (
     chain_once x (hi x - 1) (lo x) cs q,
     λ d. (
@@ -270,14 +284,17 @@ module _ (n : ℕ) (parent : ℕ → ℕ) (order : List ℕ)
 
   -- ---- with memory mem k before the place k, and the need and the out of each task
   module _ (mem need out best : ℕ → ℕ)
-      (settles : (x : ℕ) (cs : List ℕ) → x < n → Once cs → ((d : ℕ) → Member d cs ↔ (IsNode n d × (parent d ≡ x))) → mem (hi x) + sum_out out cs ≡ mem (hi x - 1) + out x)
-      (least : (x : ℕ) (cs : List ℕ) → x < n → Once cs → ((d : ℕ) → Member d cs ↔ (IsNode n d × (parent d ≡ x))) → best x ≤ children_peak (need x) (subtrees_of best out cs)) where
+      (settles : (x : ℕ) (cs : List ℕ) → x < n → Once cs → ((d : ℕ) → Member d cs ↔ (IsNode n d × (parent d ≡ x)))
+      → mem (hi x) + sum_out out cs ≡ mem (hi x - 1) + out x)
+      (least : (x : ℕ) (cs : List ℕ) → x < n → Once cs → ((d : ℕ) → Member d cs ↔ (IsNode n d × (parent d ≡ x)))
+      → best x ≤ children_peak (need x) (subtrees_of best out cs)) where
     -- a block leaves its root's out, and reaches its best peak
     abbrev pub Block : ℕ → Type 0
     Block x = (mem (hi x) ≡ mem (lo x) + out x) × ((k : ℕ) × (lo x ≤ k) × (k < hi x) × (mem (lo x) + best x ≤ mem k + need (task k)))
 
     along : (x e p : ℕ) (cs : List ℕ) → Chain n parent lo hi x e p cs → task e ≡ x → ((c : ℕ) → IsNode n c → parent c ≡ x → Block c)
-        → (mem e ≡ mem p + sum_out out cs) × ((k : ℕ) × (p ≤ k) × (k ≤ e) × (mem p + children_peak (need x) (subtrees_of best out cs) ≤ mem k + need (task k))) × (p ≤ e)
+        → (mem e ≡ mem p + sum_out out cs)
+        × ((k : ℕ) × (p ≤ k) × (k ≤ e) × (mem p + children_peak (need x) (subtrees_of best out cs) ≤ mem k + need (task k))) × (p ≤ e)
     along x e p cs done t each = (omega arith, (e, omega arith, omega arith, rw t (omega arith)), omega arith)
     along x e p cs (block {c = c} {cs = cs'} pc ec q) t each =
         let r = along x e (hi c) cs' q t each in

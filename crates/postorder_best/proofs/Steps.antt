@@ -1,5 +1,6 @@
 -- One task's step of the memory, and sums over children.
-use Rattle.std.proofs.Common.{sym, ◌∙◌, subst, ap, ◌+◌, ◌≡◌, ◌≢◌, inl, inr, ℕ, zero, suc, ◌<◌, arith, refl, Bool, true, false, cond, not, ◌&&◌, ◌||◌, eqb, eq-eqb, eqb-true, List, [], ◌∷◌, ◌++◌}
+use Rattle.std.proofs.Common.{sym, ◌∙◌, subst, ap, ◌+◌, ◌≡◌, ◌≢◌, inl, inr, ℕ, zero, suc, ◌<◌, arith, refl, Bool}
+use Rattle.std.proofs.Common.{true, false, cond, not, ◌&&◌, ◌||◌, eqb, eq-eqb, eqb-true, List, [], ◌∷◌, ◌++◌}
 use Rattle.std.proofs.lemmas.Bool.{cases_eq, ne_eqb}
 use Rattle.std.proofs.lemmas.List.Folds.{list_any-append}
 use Rattle.postorder_best.specs.Postorder.{Member}
@@ -28,7 +29,9 @@ balance false false false false size p = refl
 
 pub totals_balance : (a b c d : ℕ → ℕ) (n : ℕ) → ((v : ℕ) → v < n → a v + b v ≡ c v + d v) → total a n + total b n ≡ total c n + total d n
 totals_balance a b c d zero each = refl
-totals_balance a b c d (suc m) each = let h = each m (omega arith) in let r = totals_balance a b c d m (λ v l. each v (omega arith)) in omega arith
+totals_balance a b c d (suc m) each = let h = each m (omega arith) in
+    let r = totals_balance a b c d m (λ v l. each v (omega arith)) in
+    omega arith
 
 pub totals_same : (a b : ℕ → ℕ) (n : ℕ) → ((v : ℕ) → v < n → a v ≡ b v) → total a n ≡ total b n
 totals_same a b zero each = refl
@@ -88,7 +91,8 @@ pub record IsNext (n : ℕ) (parent : ℕ → ℕ) (done : List ℕ) (v : ℕ) :
 pub memory-step : (n : ℕ) (parent out : ℕ → ℕ) (done : List ℕ) (v : ℕ) → v < n → out 0 ≡ 0 → IsNext n parent done v
     → memory n parent out (done ++ v ∷ []) + total (λ w. bit (eqb v (parent w)) (out w)) n ≡ memory n parent out done + out v
 memory-step n parent out done v l zero_out next =
-    let sums = totals_balance (λ w. bit (stands w (done ++ v ∷ []) && not (stands (parent w) (done ++ v ∷ []))) (out w)) (λ w. bit (eqb v (parent w)) (out w))
+    let sums = totals_balance (λ w. bit (stands w (done ++ v ∷ []) && not (stands (parent w) (done ++ v ∷ []))) (out w))
+    (λ w. bit (eqb v (parent w)) (out w))
     (λ w. bit (stands w done && not (stands (parent w) done)) (out w)) (λ w. bit (eqb v w) (out w)) n each in
     let one = total_one out v n l in
     omega arith
@@ -105,7 +109,9 @@ memory-step n parent out done v l zero_out next =
       ready = λ e. member_stands w done (next.children w node (sym (eqb-true v (parent w) e)));
     }
 
-    each : (w : ℕ) → w < n → bit (stands w (done ++ v ∷ []) && not (stands (parent w) (done ++ v ∷ []))) (out w) + bit (eqb v (parent w)) (out w) ≡ bit (stands w done && not (stands (parent w) done)) (out w) + bit (eqb v w) (out w)
+    each : (w : ℕ) → w < n
+        → bit (stands w (done ++ v ∷ []) && not (stands (parent w) (done ++ v ∷ []))) (out w) + bit (eqb v (parent w)) (out w)
+        ≡ bit (stands w done && not (stands (parent w) done)) (out w) + bit (eqb v w) (out w)
     each w lw = elim (cases_eq w 0) [
       | inl e ↦ (
           let o : out w ≡ 0 = ap out e ∙ zero_out in
@@ -115,5 +121,6 @@ memory-step n parent out done v l zero_out next =
           let z4 = zero_bit (eqb v w) w o in
           omega arith
           )
-      | inr ne ↦ rw (stands-push w v done, stands-push (parent w) v done) (balance (stands w done) (stands (parent w) done) (eqb v w) (eqb v (parent w)) (out w) (place w (omega arith, lw)))
+      | inr ne ↦ rw (stands-push w v done, stands-push (parent w) v done)
+          (balance (stands w done) (stands (parent w) done) (eqb v w) (eqb v (parent w)) (out w) (place w (omega arith, lw)))
     ]

@@ -13,7 +13,8 @@ back_length : (xs : List ℕ) → length (back xs) ≡ length xs
 back_length [] = refl
 back_length (x ∷ xs) = let r = back_length xs in let a = length-append (back xs) (x ∷ []) in omega arith
 
-pub walk_ready : (n : ℕ) (parent : ℕ → ℕ) (kids : ℕ → List ℕ) (forest : IsForest n parent) → ((x : ℕ) → x < n → (c : ℕ) → Member c (kids x) ↔ (IsNode n c × (parent c ≡ x)))
+pub walk_ready : (n : ℕ) (parent : ℕ → ℕ) (kids : ℕ → List ℕ) (forest : IsForest n parent)
+    → ((x : ℕ) → x < n → (c : ℕ) → Member c (kids x) ↔ (IsNode n c × (parent c ≡ x)))
     → ((x : ℕ) → x < n → Once (kids x)) → (o : List ℕ) × ListedAll kids (kids 0) o × Emits n kids (kids 0) (back o) × (length (back o) ≤ n)
 walk_ready n parent kids forest exact once =
     let l = has_listing n parent kids forest exact in

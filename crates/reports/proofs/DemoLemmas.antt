@@ -1,5 +1,6 @@
 -- What a demo prints, that it has one answer, and that the answer says yes.
-use Rattle.std.proofs.Common.{◌≡◌, ◌∙◌, ℕ, ◌*◌, ◌≤◌, Bool, List, [], ◌∷◌, ◌++◌, Option, Some, None, length, codes, refl, sym, ap, subst, append_assoc}
+use Rattle.std.proofs.Common.{◌≡◌, ◌∙◌, ℕ, ◌*◌, ◌≤◌, Bool, List, [], ◌∷◌, ◌++◌, Option, Some}
+use Rattle.std.proofs.Common.{None, length, codes, refl, sym, ap, subst, append_assoc}
 use Rattle.claim_check.specs.Accepted.{IsAccepted, IsObjection}
 use Rattle.claim_check.specs.declared.objection.Objection.{Objection}
 use Rattle.claim_check.specs.declared.verdict.Verdict.{Verdict}
@@ -29,7 +30,8 @@ use Rattle.trees.specs.declared.node.Node.{Node}
 use Rattle.trees.specs.Forest.{Forest, IsForestOf, all_numbers}
 use Rattle.trees.specs.Tree.{IsTree, system_of_nodes}
 use Rattle.trees.specs.TreeTerm.{forest_positions}
-use Rattle.reports.specs.Demo.{plain_fronts, IsGridTree, IsMade, HasPositions, IsPostorderPeak, IsAcceptedFor, IsVerdictFor, kind_word, check_word, demo_lines, IsSummary, IsDemoOf, IsShown}
+use Rattle.reports.specs.Demo.{plain_fronts, IsGridTree, IsMade, HasPositions, IsPostorderPeak, IsAcceptedFor}
+use Rattle.reports.specs.Demo.{IsVerdictFor, kind_word, check_word, demo_lines, IsSummary, IsDemoOf, IsShown}
 use Rattle.judging.specs.Files.{Answer}
 use Rattle.requests.specs.Request.{IsMakeable}
 use Rattle.requests.specs.declared.commands.demo.Demo.{Demo}
@@ -63,7 +65,8 @@ pub record Parts : Type 0 where
   pub least : (system : TaskSystem) (peak other : ℕ) → IsLeast system peak → IsLeast system other → peak ≡ other
   pub best : (nodes : List Node) (a b : List ℕ) → IsTree nodes → IsBestPostorder nodes a → IsBestPostorder nodes b → a ≡ b
   pub patterns : (order : ℕ) (pairs : List (ℕ × ℕ)) (a b : List (List ℕ)) → IsPatternOf order pairs a → IsPatternOf order pairs b → a ≡ b
-  pub min_degrees : (joined : ℕ → ℕ → Bool) (n : ℕ) (one two : List ℕ) → IsMinimumDegreeOrder joined n one → IsMinimumDegreeOrder joined n two → one ≡ two
+  pub min_degrees : (joined : ℕ → ℕ → Bool) (n : ℕ) (one two : List ℕ)
+      → IsMinimumDegreeOrder joined n one → IsMinimumDegreeOrder joined n two → one ≡ two
   pub trees : (seed n : ℕ) → 1 ≤ n → n ≤ most_tasks → IsTree (tree_of seed n)
   pub workflows : (seed n : ℕ) → 1 ≤ n → n ≤ most_tasks → IsTerms (workflow_of seed n)
   pub front_trees : (options : FrontOptions) (rows : List (List ℕ)) (order : List ℕ) (nodes : List Node) → IsPattern rows
@@ -126,7 +129,8 @@ module _ (p : Parts) where
       let other = subst (λ (x : List (List ℕ)). IsMinimumDegreeOrder (is_joined x) (length x) order') (sym same) least' in
       let orders = p.min_degrees (is_joined pattern) (length pattern) order order' least other in
       p.fronts plain_fronts pattern order a b is.pattern least.perm.len fronts
-      (subst (λ (x : List (List ℕ)). IsFrontTree plain_fronts x order b) (sym same) (subst (λ (o : List ℕ). IsFrontTree plain_fronts pattern' o b) (sym orders) fronts'))
+      (subst (λ (x : List (List ℕ)). IsFrontTree plain_fronts x order b) (sym same)
+      (subst (λ (o : List ℕ). IsFrontTree plain_fronts pattern' o b) (sym orders) fronts'))
 
   one_origin : (made : Demo) (a b : Origin) → IsMade made a → IsMade made b → a ≡ b
   one_origin (demos.Tree s n) (origins.Tree xs) (origins.Tree ys) is is' = ap origins.Tree (is ∙ sym is')

@@ -25,10 +25,12 @@ use Rattle.judging.specs.Files.{IsOrderOf, IsMatrixTree, IsTreeOf, IsSystemOf, I
 use Rattle.judging.specs.Judged.{AreWithin}
 use Rattle.judging.specs.Numbered.{IsNumberedTerm, node_positions}
 use Rattle.judging.proofs.NumberLemmas.{forest_within, range_within}
-use Rattle.requests.specs.Request.{Ordering, natural, min_degree, perm_named, Matrix, TreeInput, tree_named, matrix_named, Input, tree_input, workflow_named, ordering_files, matrix_files, tree_input_files, input_files}
+use Rattle.requests.specs.Request.{Ordering, natural, min_degree, perm_named, Matrix, TreeInput, tree_named, matrix_named, Input}
+use Rattle.requests.specs.Request.{tree_input, workflow_named, ordering_files, matrix_files, tree_input_files, input_files}
 
 -- lists that are cut at the same place
-same_cut : {A : Type 0} (a b : List A) (x y : A) (xs ys : List A) → length a ≡ length b → a ++ x ∷ xs ≡ b ++ y ∷ ys → (a ≡ b) × (x ≡ y) × (xs ≡ ys)
+same_cut : {A : Type 0} (a b : List A) (x y : A) (xs ys : List A)
+    → length a ≡ length b → a ++ x ∷ xs ≡ b ++ y ∷ ys → (a ≡ b) × (x ≡ y) × (xs ≡ ys)
 same_cut [] [] x y xs ys len e = (refl, cc, cc)
 same_cut [] (q ∷ b) x y xs ys len e = absurd (omega arith)
 same_cut (p ∷ a) [] x y xs ys len e = absurd (omega arith)
@@ -48,14 +50,18 @@ pub record Parts : Type 0 where
   pub tree : (bytes : List ℕ) (nodes : List Node) → ReadsTree bytes nodes → IsTree nodes
   pub tree_system : (nodes : List Node) → IsTree nodes → IsSystem (system_of_nodes nodes)
   pub forests : (nodes : List Node) (f g : Forest) → IsForestOf nodes f → IsForestOf nodes g → f ≡ g
-  pub forest_each : (nodes : List Node) (f : Forest) → IsTree nodes → IsForestOf nodes f → IsPermutation (all_numbers f) (range_with_len 1 (length nodes))
+  pub forest_each : (nodes : List Node) (f : Forest) → IsTree nodes
+      → IsForestOf nodes f → IsPermutation (all_numbers f) (range_with_len 1 (length nodes))
   pub patterns : OneValue ReadsPattern
   pub perms : (n : ℕ) → OneValue (ReadsPerm n)
-  pub min_degrees : (joined : ℕ → ℕ → Bool) (n : ℕ) (one two : List ℕ) → IsMinimumDegreeOrder joined n one → IsMinimumDegreeOrder joined n two → one ≡ two
+  pub min_degrees : (joined : ℕ → ℕ → Bool) (n : ℕ) (one two : List ℕ)
+      → IsMinimumDegreeOrder joined n one → IsMinimumDegreeOrder joined n two → one ≡ two
   pub perm : (n : ℕ) (bytes order : List ℕ) → ReadsPerm n bytes order → IsPerm n order
-  pub fronts : (options : FrontOptions) (rows : List (List ℕ)) (order : List ℕ) (one two : List Node) → IsPattern rows → length order ≡ length rows
+  pub fronts : (options : FrontOptions) (rows : List (List ℕ)) (order : List ℕ) (one two : List Node)
+      → IsPattern rows → length order ≡ length rows
       → IsFrontTree options rows order one → IsFrontTree options rows order two → one ≡ two
-  pub front_tree : (options : FrontOptions) (rows : List (List ℕ)) (order : List ℕ) (nodes : List Node) → IsPattern rows → length order ≡ length rows
+  pub front_tree : (options : FrontOptions) (rows : List (List ℕ)) (order : List ℕ) (nodes : List Node)
+      → IsPattern rows → length order ≡ length rows
       → IsFrontTree options rows order nodes → IsTree nodes
   pub workflows : OneValue ReadsWorkflow
   pub terms : (bytes : List ℕ) (positions : List Position) → ReadsWorkflow bytes positions → IsTerms positions
@@ -70,7 +76,8 @@ module _ (p : Parts) where
   one_order min_degree rows [] a b is other = (p.min_degrees (is_joined rows) (length rows) a b is.1 other.1, is.1.perm.len, refl)
   one_order min_degree rows (t ∷ ts) a b is other = absurd is
   one_order (perm_named name) rows [] a b is other = absurd is
-  one_order (perm_named name) rows (t ∷ []) a b is other = (p.perms (length rows) t a b is.1 other.1, (p.perm (length rows) t a is.1).len, refl)
+  one_order (perm_named name) rows (t ∷ []) a b is other =
+      (p.perms (length rows) t a b is.1 other.1, (p.perm (length rows) t a is.1).len, refl)
   one_order (perm_named name) rows (t ∷ u ∷ ts) a b is other = absurd is
 
   pub one_matrix : (o : Ordering) (texts rows other : List (List ℕ)) (order same : List ℕ) → IsOrderedMatrix o texts rows order
@@ -86,8 +93,10 @@ module _ (p : Parts) where
   one_matrix_tree m [] a b is other = absurd is
   one_matrix_tree m (t ∷ ts) a b (rows, order, matrix, is_order, fronts) (rows', order', matrix', is_order', fronts') =
       let same = p.patterns t rows rows' matrix.1 matrix'.1 in
-      let orders = one_order m.ordering rows ts order order' is_order (subst (λ (r : List (List ℕ)). IsOrderOf m.ordering r ts order') (sym same) is_order') in
-      let other = subst (λ (o : List ℕ). IsFrontTree m.fronts rows o b) (sym orders.0) (subst (λ (r : List (List ℕ)). IsFrontTree m.fronts r order' b) (sym same) fronts') in
+      let orders = one_order m.ordering rows ts order order' is_order
+      (subst (λ (r : List (List ℕ)). IsOrderOf m.ordering r ts order') (sym same) is_order') in
+      let other = subst (λ (o : List ℕ). IsFrontTree m.fronts rows o b) (sym orders.0)
+      (subst (λ (r : List (List ℕ)). IsFrontTree m.fronts r order' b) (sym same) fronts') in
       let pattern = matrix.1.pattern.pattern in (
         p.fronts m.fronts rows order a b pattern orders.1 fronts other,
         p.front_tree m.fronts rows order a pattern orders.1 fronts,
@@ -114,7 +123,8 @@ module _ (p : Parts) where
       (e ∙ ap system_of_term same ∙ sym e', subst IsSystem (sym own) (p.term_system ps terms), refl)
   one_system (workflow_named name) (text ∷ more ∷ texts) s t is other = absurd is
 
-  pub one_list_of_positions : (input : Input) (texts : List (List ℕ)) (s t : TaskSystem) (ps qs : List Position) → IsSystemWithTerm input texts s ps → IsSystemWithTerm input texts t qs → ps ≡ qs
+  pub one_list_of_positions : (input : Input) (texts : List (List ℕ)) (s t : TaskSystem) (ps qs : List Position)
+      → IsSystemWithTerm input texts s ps → IsSystemWithTerm input texts t qs → ps ≡ qs
   one_list_of_positions (tree_input input) texts s t ps qs (nodes, f, is, e, forest, at) (nodes', g, is', e', forest', at') =
       let same = (one_tree input texts nodes nodes' is is').0 in
       let forests = p.forests nodes f g forest (subst (λ (ns : List Node). IsForestOf ns g) (sym same) forest') in
@@ -123,7 +133,8 @@ module _ (p : Parts) where
   one_list_of_positions (workflow_named name) (text ∷ []) s t ps qs (u, w, d, e) (v, w', d', e') = p.workflows text ps qs w.1 w'.1
   one_list_of_positions (workflow_named name) (text ∷ more ∷ texts) s t ps qs is other = absurd is
 
-  pub one_numbered_term : (input : Input) (texts : List (List ℕ)) (ps qs : List Position) (ks ls : List ℕ) → IsNumberedTerm input texts ps ks → IsNumberedTerm input texts qs ls
+  pub one_numbered_term : (input : Input) (texts : List (List ℕ)) (ps qs : List Position) (ks ls : List ℕ)
+      → IsNumberedTerm input texts ps ks → IsNumberedTerm input texts qs ls
       → (ps ≡ qs) × (ks ≡ ls) × AreWithin (length ps) ks
   one_numbered_term (tree_input input) texts ps qs ks ls (nodes, f, is, forest, at, numbers) (nodes', g, is', forest', at', numbers') =
       let same = (one_tree input texts nodes nodes' is is').0 in
@@ -149,8 +160,10 @@ Systems = (input : Input) (texts : List (List ℕ)) (one two : TaskSystem) → I
     → (one ≡ two) × IsSystem one × (length texts ≡ length (input_files input))
 
 -- texts that begin with those of an input
-pub same_texts : Systems → (input : Input) (mine mine' : List (List ℕ)) (text text' : List ℕ) (rest rest' : List (List ℕ)) (s t : TaskSystem)
-    → mine ++ text ∷ rest ≡ mine' ++ text' ∷ rest' → IsSystemOf input mine s → IsSystemOf input mine' t → (mine ≡ mine') × (text ≡ text') × (rest ≡ rest') × (s ≡ t)
+pub same_texts : Systems
+    → (input : Input) (mine mine' : List (List ℕ)) (text text' : List ℕ) (rest rest' : List (List ℕ)) (s t : TaskSystem)
+    → mine ++ text ∷ rest ≡ mine' ++ text' ∷ rest' → IsSystemOf input mine s
+    → IsSystemOf input mine' t → (mine ≡ mine') × (text ≡ text') × (rest ≡ rest') × (s ≡ t)
 same_texts systems input mine mine' text text' rest rest' s t split is is' =
     let len = (systems input mine s s is is).2 ∙ sym ((systems input mine' t t is' is').2) in
     let same = same_cut mine mine' text text' rest rest' len split in

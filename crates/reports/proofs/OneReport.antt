@@ -1,5 +1,6 @@
 -- A request but `plan` has one report, and a request with a report has no refusal.
-use Rattle.std.proofs.Common.{◌≡◌, ◌∙◌, ◌↔◌, ◌≤◌, ℕ, List, [], ◌∷◌, ◌++◌, Option, Some, None, length, refl, sym, ap, subst, inl, inr, arith, append_assoc}
+use Rattle.std.proofs.Common.{◌≡◌, ◌∙◌, ◌↔◌, ◌≤◌, ℕ, List, [], ◌∷◌, ◌++◌, Option, Some, None}
+use Rattle.std.proofs.Common.{length, refl, sym, ap, subst, inl, inr, arith, append_assoc}
 use Rattle.std.proofs.lemmas.List.{append-nil}
 use Rattle.activation.specs.declared.events.Event.{Event}
 use Rattle.activation.specs.Machine.{Setting, IsSetting}
@@ -22,12 +23,16 @@ use Rattle.trees.specs.declared.node.Node.{Node}
 use Rattle.trees.specs.Tree.{IsTree, system_of_nodes}
 use Rattle.reports.specs.Reports.{IsReport, IsDecided}
 use Rattle.reports.specs.Check.{IsCheckOf, verdict_answer}
-use Rattle.judging.specs.Files.{Answer, AreAccepted, HasValue, IsRefusedInRole, IsFirstRefusal, IsOrderFrom, IsTreeOf, IsSystemOf, IsSystemWithTerm, order_refused}
+use Rattle.judging.specs.Files.{Answer, AreAccepted, HasValue, IsRefusedInRole, IsFirstRefusal, IsOrderFrom}
+use Rattle.judging.specs.Files.{IsTreeOf, IsSystemOf, IsSystemWithTerm, order_refused}
 use Rattle.reports.specs.Demo.{IsDemoOf}
 use Rattle.reports.specs.Fronts.{IsFrontsOf}
 use Rattle.reports.specs.Post.{IsPost, post_answer}
 use Rattle.reports.specs.Replay.{IsReplayAnswer, IsReplayOf}
-use Rattle.requests.specs.Request.{Request, replay, tree, post, check, planning, simulate, demo, upgrade, spill, segments, reduce, Upgrade, IsInRange, IsMakeable, TreeInput, matrix_named, Input, OrderSource, order_named, plan_named, Simulation, FileRole, NamedFile, tree_input_files, input_files, source_file, priority_file, priority_files, files_of, fronts, OrderedMatrix}
+use Rattle.requests.specs.Request.{Request, replay, tree, post, check, planning, simulate, demo, upgrade, spill, segments}
+use Rattle.requests.specs.Request.{reduce, Upgrade, IsInRange, IsMakeable, TreeInput, matrix_named, Input, OrderSource}
+use Rattle.requests.specs.Request.{order_named, plan_named, Simulation, FileRole, NamedFile, tree_input_files, input_files}
+use Rattle.requests.specs.Request.{source_file, priority_file, priority_files, files_of, fronts, OrderedMatrix}
 use Rattle.reports.specs.Simulate.{IsPriorityFrom, IsSimulation, IsSimulationOf, setting_of, simulation_answer}
 use Rattle.judging.specs.Priorities.{IsOwnPriority, priority_or}
 use Rattle.reports.specs.Tree.{tree_answer}
@@ -46,7 +51,8 @@ pub record Reports : Type 0 where
   pub trees : (input : TreeInput) (texts : List (List ℕ)) (a b : List Node) → IsTreeOf input texts a → IsTreeOf input texts b
       → (a ≡ b) × IsTree a × (length texts ≡ length (tree_input_files input))
   pub systems : Systems
-  pub terms : (input : Input) (texts : List (List ℕ)) (s t : TaskSystem) (ps qs : List Position) → IsSystemWithTerm input texts s ps → IsSystemWithTerm input texts t qs → ps ≡ qs
+  pub terms : (input : Input) (texts : List (List ℕ)) (s t : TaskSystem) (ps qs : List Position)
+      → IsSystemWithTerm input texts s ps → IsSystemWithTerm input texts t qs → ps ≡ qs
   pub orders : (bytes a b : List ℕ) → ReadsOrder bytes a → ReadsOrder bytes b → a ≡ b
   pub perms : (n : ℕ) (bytes a b : List ℕ) → ReadsPerm n bytes a → ReadsPerm n bytes b → a ≡ b
   pub perm : (n : ℕ) (bytes a : List ℕ) → ReadsPerm n bytes a → IsPerm n a
@@ -55,13 +61,17 @@ pub record Reports : Type 0 where
   pub fault : (system : TaskSystem) (order : List ℕ) → (first_fault system order ≡ None) ↔ IsTraversal system order
   pub long : (system : TaskSystem) (order : List ℕ) → IsTraversal system order → length order ≡ length system.tasks
   pub best : (nodes : List Node) (a b : List ℕ) → IsTree nodes → IsBestPostorder nodes a → IsBestPostorder nodes b → a ≡ b
-  pub verdict : (system : TaskSystem) (ps : List Position) (plan : PlanValue) (a b : Verdict) → IsVerdict system ps plan a → IsVerdict system ps plan b → a ≡ b
-  pub schedule : (c : Setting) → IsSetting c → (priority : List ℕ) → HoldsEach c.system priority → (a b : List Event) → IsSchedule c priority (first_moment c) a → IsSchedule c priority (first_moment c) b → a ≡ b
+  pub verdict : (system : TaskSystem) (ps : List Position) (plan : PlanValue) (a b : Verdict)
+      → IsVerdict system ps plan a → IsVerdict system ps plan b → a ≡ b
+  pub schedule : (c : Setting) → IsSetting c → (priority : List ℕ) → HoldsEach c.system priority
+      → (a b : List Event) → IsSchedule c priority (first_moment c) a → IsSchedule c priority (first_moment c) b → a ≡ b
   pub demos : (made : Demo) (a b : Answer) → IsMakeable made → IsDemoOf made a → IsDemoOf made b → a ≡ b
-  pub fronts : (m : OrderedMatrix) (bound workers : ℕ) (texts : List (List ℕ)) (a b : Answer) → 1 ≤ workers → IsFrontsOf m bound workers texts a
+  pub fronts : (m : OrderedMatrix) (bound workers : ℕ) (texts : List (List ℕ)) (a b : Answer)
+      → 1 ≤ workers → IsFrontsOf m bound workers texts a
       → IsFrontsOf m bound workers texts b → a ≡ b
   pub upgrades : (u : Upgrade) (texts : List (List ℕ)) (a b : Versioned) → IsUpgradedFrom u texts a → IsUpgradedFrom u texts b → a ≡ b
-  pub numbered : (input : Input) (texts : List (List ℕ)) (ps qs : List Position) (ks ls : List ℕ) → IsNumberedTerm input texts ps ks → IsNumberedTerm input texts qs ls → (ps ≡ qs) × (ks ≡ ls) × AreWithin (length ps) ks
+  pub numbered : (input : Input) (texts : List (List ℕ)) (ps qs : List Position) (ks ls : List ℕ)
+      → IsNumberedTerm input texts ps ks → IsNumberedTerm input texts qs ls → (ps ≡ qs) × (ks ≡ ls) × AreWithin (length ps) ks
   pub stairs : OneStairs
 
 module _ (r : Reports) where
@@ -69,12 +79,15 @@ module _ (r : Reports) where
 
   one_order : (source : OrderSource) (text a b : List ℕ) → IsOrderFrom source text a → IsOrderFrom source text b → a ≡ b
   one_order (order_named name) text a b is is' = r.orders text a b is.1 is'.1
-  one_order (plan_named name) text a b (plan, is, e) (plan', is', e') = e ∙ ap (λ (p : PlanValue). p.order) (r.plans text plan plan' is.1 is'.1) ∙ sym e'
+  one_order (plan_named name) text a b (plan, is, e) (plan', is', e') =
+      e ∙ ap (λ (p : PlanValue). p.order) (r.plans text plan plan' is.1 is'.1) ∙ sym e'
 
-  no_fault : (system : TaskSystem) (order : List ℕ) (place : ℕ) (kind : OrderKind) → IsTraversal system order → first_fault system order ≡ Some (place, kind) → ⊥
+  no_fault : (system : TaskSystem) (order : List ℕ) (place : ℕ) (kind : OrderKind)
+      → IsTraversal system order → first_fault system order ≡ Some (place, kind) → ⊥
   no_fault system order place kind traversal fault = let none = (r.fault system order).1 traversal in cc
 
-  same_fault : (system : TaskSystem) (order : List ℕ) (a b : Answer) → (place : ℕ) × (kind : OrderKind) × (first_fault system order ≡ Some (place, kind)) × (a ≡ order_refused place kind)
+  same_fault : (system : TaskSystem) (order : List ℕ) (a b : Answer)
+      → (place : ℕ) × (kind : OrderKind) × (first_fault system order ≡ Some (place, kind)) × (a ≡ order_refused place kind)
       → (place : ℕ) × (kind : OrderKind) × (first_fault system order ≡ Some (place, kind)) × (b ≡ order_refused place kind) → a ≡ b
   same_fault system order a b (place, kind, fault, e) (place', kind', fault', e') =
       let same : Some (place, kind) ≡ Some (place', kind') = sym fault ∙ fault' in
@@ -87,24 +100,34 @@ module _ (r : Reports) where
   one_replay system order a b (inr (place, kind, fault, e)) (inl is) = absurd (no_fault system order place kind is.0 fault)
   one_replay system order a b (inr is) (inr is') = same_fault system order a b is is'
 
-  one_simulation : (c : Setting) (priority : List ℕ) (a b : Answer) → IsSystem c.system → 1 ≤ c.workers → (IsTraversal c.system c.order → HoldsEach c.system priority)
+  one_simulation : (c : Setting) (priority : List ℕ) (a b : Answer) → IsSystem c.system
+      → 1 ≤ c.workers → (IsTraversal c.system c.order → HoldsEach c.system priority)
       → IsSimulation c priority a → IsSimulation c priority b → a ≡ b
   one_simulation c priority a b system workers holds (inl is) (inl is') = same_fault c.system c.order a b is is'
-  one_simulation c priority a b system workers holds (inl (place, kind, fault, e)) (inr (inl is)) = absurd (no_fault c.system c.order place kind is.0 fault)
-  one_simulation c priority a b system workers holds (inl (place, kind, fault, e)) (inr (inr (es, is, within, scheduled, e'))) = absurd (no_fault c.system c.order place kind is fault)
-  one_simulation c priority a b system workers holds (inr (inl is)) (inl (place, kind, fault, e)) = absurd (no_fault c.system c.order place kind is.0 fault)
+  one_simulation c priority a b system workers holds (inl (place, kind, fault, e)) (inr (inl is)) =
+      absurd (no_fault c.system c.order place kind is.0 fault)
+  one_simulation c priority a b system workers holds (inl (place, kind, fault, e)) (inr (inr (es, is, within, scheduled, e'))) =
+      absurd (no_fault c.system c.order place kind is fault)
+  one_simulation c priority a b system workers holds (inr (inl is)) (inl (place, kind, fault, e)) =
+      absurd (no_fault c.system c.order place kind is.0 fault)
   one_simulation c priority a b system workers holds (inr (inl is)) (inr (inl is')) = is.2 ∙ sym is'.2
-  one_simulation c priority a b system workers holds (inr (inl is)) (inr (inr (es, is', within, scheduled, e'))) = absurd (omega (arith, is.1, within))
-  one_simulation c priority a b system workers holds (inr (inr (es, is, within, scheduled, e'))) (inl (place, kind, fault, e)) = absurd (no_fault c.system c.order place kind is fault)
-  one_simulation c priority a b system workers holds (inr (inr (es, is, within, scheduled, e'))) (inr (inl is')) = absurd (omega (arith, is'.1, within))
-  one_simulation c priority a b system workers holds (inr (inr (es, is, within, scheduled, e))) (inr (inr (fs, is', within', scheduled', e'))) =
+  one_simulation c priority a b system workers holds (inr (inl is)) (inr (inr (es, is', within, scheduled, e'))) =
+      absurd (omega (arith, is.1, within))
+  one_simulation c priority a b system workers holds (inr (inr (es, is, within, scheduled, e'))) (inl (place, kind, fault, e)) =
+      absurd (no_fault c.system c.order place kind is fault)
+  one_simulation c priority a b system workers holds (inr (inr (es, is, within, scheduled, e'))) (inr (inl is')) =
+      absurd (omega (arith, is'.1, within))
+  one_simulation c priority a b system workers holds
+      (inr (inr (es, is, within, scheduled, e))) (inr (inr (fs, is', within', scheduled', e'))) =
       let setting : IsSetting c = record { system = system; traversal = is; bound = within; workers = workers } in
       e ∙ ap (simulation_answer c) (r.schedule c setting priority (holds is) es fs scheduled scheduled') ∙ sym e'
 
   -- the priority, which holds each task once where the order is a traversal
-  own_priority : (source : OrderSource) (system : TaskSystem) (text order a b : List ℕ) → IsOrderFrom source text order → IsOwnPriority source text order a → IsOwnPriority source text order b
+  own_priority : (source : OrderSource) (system : TaskSystem) (text order a b : List ℕ)
+      → IsOrderFrom source text order → IsOwnPriority source text order a → IsOwnPriority source text order b
       → (a ≡ b) × (IsTraversal system order → HoldsEach system a)
-  own_priority (order_named name) system text order a b is_order is is' = (is ∙ sym is', λ traversal. subst (HoldsEach system) (sym is) (of_traversal system order traversal))
+  own_priority (order_named name) system text order a b is_order is is' =
+      (is ∙ sym is', λ traversal. subst (HoldsEach system) (sym is) (of_traversal system order traversal))
   own_priority (plan_named name) system text order a b (plan, is_plan, same) (own, is, e) (other, is', e') = (
     e ∙ ap (λ (p : PlanValue). priority_or order p.priority) (r.plans text own other is.1 is'.1) ∙ sym e',
     λ traversal.
@@ -113,8 +136,11 @@ module _ (r : Reports) where
         subst (HoldsEach system) (sym e) (of_own system order own.priority traversal (r.long system order traversal) ranks),
   )
 
-  one_priority : (source : OrderSource) (name : Option (List ℕ)) (system : TaskSystem) (text : List ℕ) (rest : List (List ℕ)) (order a b : List ℕ) → IsOrderFrom source text order
-      → IsPriorityFrom source name (length system.tasks) text rest order a → IsPriorityFrom source name (length system.tasks) text rest order b
+  one_priority :
+      (source : OrderSource) (name : Option (List ℕ)) (system : TaskSystem) (text : List ℕ) (rest : List (List ℕ)) (order a b : List ℕ)
+      → IsOrderFrom source text order
+      → IsPriorityFrom source name (length system.tasks) text rest order a
+      → IsPriorityFrom source name (length system.tasks) text rest order b
       → (a ≡ b) × (IsTraversal system order → HoldsEach system a)
   one_priority source None system text [] order a b is_order is is' = own_priority source system text order a b is_order is is'
   one_priority source None system text (f ∷ fs) order a b is_order is is' = absurd is
@@ -126,16 +152,22 @@ module _ (r : Reports) where
 
   -- ---- the reports
 
-  replayed_once : (input : Input) (source : OrderSource) (texts : List (List ℕ)) (a b : Answer) → IsReplayOf input source texts a → IsReplayOf input source texts b → a ≡ b
-  replayed_once input source texts a b (mine, text, s, order, split, is_system, is_order, is) (mine', text', t, order', split', is_system', is_order', is') =
+  replayed_once : (input : Input) (source : OrderSource) (texts : List (List ℕ)) (a b : Answer)
+      → IsReplayOf input source texts a → IsReplayOf input source texts b → a ≡ b
+  replayed_once input source texts a b (mine, text, s, order, split, is_system, is_order, is)
+      (mine', text', t, order', split', is_system', is_order', is') =
       let same = same_texts r.systems input mine mine' text text' [] [] s t (sym split ∙ split') is_system is_system' in
-      let orders = one_order source text order order' is_order (subst (λ (x : List ℕ). IsOrderFrom source x order') (sym same.1) is_order') in
+      let orders =
+      one_order source text order order' is_order (subst (λ (x : List ℕ). IsOrderFrom source x order') (sym same.1) is_order') in
       one_replay s order a b is (coe 1 0 (i. IsReplayAnswer (same.3 i) (orders i) b) is')
 
   checked_once : (input : Input) (texts : List (List ℕ)) (a b : Answer) → IsCheckOf input texts a → IsCheckOf input texts b → a ≡ b
-  checked_once input texts a b (mine, text, s, ps, plan, split, with_term, is_plan, (v, is, e)) (mine', text', t, qs, plan', split', with_term', is_plan', (w, is', e')) =
-      let same = same_texts r.systems input mine mine' text text' [] [] s t (sym split ∙ split') (work_has_system input mine s ps with_term) (work_has_system input mine' t qs with_term') in
-      let terms = r.terms input mine s t ps qs with_term (subst (λ (ts : List (List ℕ)). IsSystemWithTerm input ts t qs) (sym same.0) with_term') in
+  checked_once input texts a b (mine, text, s, ps, plan, split, with_term, is_plan, (v, is, e))
+      (mine', text', t, qs, plan', split', with_term', is_plan', (w, is', e')) =
+      let same = same_texts r.systems input mine mine' text text' [] [] s t (sym split ∙ split')
+      (work_has_system input mine s ps with_term) (work_has_system input mine' t qs with_term') in
+      let terms = r.terms input mine s t ps qs with_term
+      (subst (λ (ts : List (List ℕ)). IsSystemWithTerm input ts t qs) (sym same.0) with_term') in
       let plans = r.plans text plan plan' is_plan.1 (subst (λ (x : List ℕ). ReadsPlan x plan') (sym same.1) is_plan'.1) in
       e ∙ ap verdict_answer (r.verdict s ps plan v w is (coe 1 0 (i. IsVerdict (same.3 i) (terms i) (plans i) w) is')) ∙ sym e'
 
@@ -149,8 +181,10 @@ module _ (r : Reports) where
       (mine, text, rest, system, order, priority, split, is_system, is_order, is_priority, is)
       (mine', text', rest', system', order', priority', split', is_system', is_order', is_priority', is') =
       let same = same_texts r.systems input mine mine' text text' rest rest' system system' (sym split ∙ split') is_system is_system' in
-      let orders = one_order source text order order' is_order (subst (λ (x : List ℕ). IsOrderFrom source x order') (sym same.1) is_order') in
-      let moved = coe 1 0 (i. IsPriorityFrom source s.priority (length (same.3 i).tasks) (same.1 i) (same.2 i) (orders i) priority') is_priority' in
+      let orders =
+      one_order source text order order' is_order (subst (λ (x : List ℕ). IsOrderFrom source x order') (sym same.1) is_order') in
+      let moved = coe 1 0
+      (i. IsPriorityFrom source s.priority (length (same.3 i).tasks) (same.1 i) (same.2 i) (orders i) priority') is_priority' in
       let one = one_priority source s.priority system text rest order priority priority' is_order is_priority moved in
       one_simulation (setting_of system order s) priority a b (r.systems input mine system system is_system is_system).1 workers one.1 is
       (coe 1 0 (i. IsSimulation (setting_of (same.3 i) (orders i) s) (one.0 i) b) is')
@@ -158,7 +192,8 @@ module _ (r : Reports) where
   pub one_report : (request : Request) (texts : List (List ℕ)) (a b : Answer) → IsInRange request → IsDecided request
       → IsReport request texts a → IsReport request texts b → a ≡ b
   one_report (replay input source) texts a b workers decided is is' = replayed_once input source texts a b is is'
-  one_report (tree m) texts a b workers decided (nodes, is, e) (nodes', is', e') = e ∙ ap tree_answer (r.trees (matrix_named m) texts nodes nodes' is is').0 ∙ sym e'
+  one_report (tree m) texts a b workers decided (nodes, is, e) (nodes', is', e') =
+      e ∙ ap tree_answer (r.trees (matrix_named m) texts nodes nodes' is is').0 ∙ sym e'
   one_report (post input) texts a b workers decided (nodes, is, best) (nodes', is', best') =
       let one = r.trees input texts nodes nodes' is is' in
       posted_once nodes a b one.1 best (subst (λ (ns : List Node). IsPost ns b) (sym one.0) best')
@@ -174,42 +209,60 @@ module _ (r : Reports) where
 
   -- ---- files that have values
 
-  both_accepted : (xs ys : List NamedFile) (earlier one two : List (List ℕ)) → length one ≡ length xs → AreAccepted xs earlier one → AreAccepted ys (earlier ++ one) two
+  both_accepted : (xs ys : List NamedFile) (earlier one two : List (List ℕ))
+      → length one ≡ length xs → AreAccepted xs earlier one → AreAccepted ys (earlier ++ one) two
       → AreAccepted (xs ++ ys) earlier (one ++ two)
   both_accepted [] ys earlier [] two len accepted more = subst (λ (e : List (List ℕ)). AreAccepted ys e two) (append-nil earlier) more
   both_accepted [] ys earlier (t ∷ one) two len accepted more = absurd (omega (arith, len))
   both_accepted (x ∷ xs) ys earlier [] two len accepted more = absurd accepted
-  both_accepted (x ∷ xs) ys earlier (t ∷ one) two len accepted more =
-      (accepted.0, both_accepted xs ys (earlier ++ t ∷ []) one two (omega (arith, len)) accepted.1 (subst (λ (e : List (List ℕ)). AreAccepted ys e two) (sym (append_assoc earlier (t ∷ []) one)) more))
+  both_accepted (x ∷ xs) ys earlier (t ∷ one) two len accepted more = (
+    accepted.0,
+    both_accepted xs ys (earlier ++ t ∷ []) one two (omega (arith, len)) accepted.1
+        (subst (λ (e : List (List ℕ)). AreAccepted ys e two) (sym (append_assoc earlier (t ∷ []) one)) more),
+  )
 
   -- those of an input, and more
-  with_input : (input : Input) (ys : List NamedFile) (texts mine two : List (List ℕ)) (s : TaskSystem) → texts ≡ mine ++ two → IsSystemOf input mine s → AreAccepted ys mine two
+  with_input : (input : Input) (ys : List NamedFile) (texts mine two : List (List ℕ)) (s : TaskSystem)
+      → texts ≡ mine ++ two → IsSystemOf input mine s → AreAccepted ys mine two
       → AreAccepted (input_files input ++ ys) [] texts
   with_input input ys texts mine two s split is more =
-      subst (AreAccepted (input_files input ++ ys) []) (sym split) (both_accepted (input_files input) ys [] mine two (r.systems input mine s s is is).2 (input_accepted input mine s is) more)
+      subst (AreAccepted (input_files input ++ ys) []) (sym split)
+      (both_accepted (input_files input) ys [] mine two (r.systems input mine s s is is).2 (input_accepted input mine s is) more)
 
-  priority_accepted : (input : Input) (source : OrderSource) (name : Option (List ℕ)) (mine : List (List ℕ)) (text : List ℕ) (rest : List (List ℕ)) (system : TaskSystem) (order a : List ℕ)
-      → IsSystemOf input mine system → IsPriorityFrom source name (length system.tasks) text rest order a → AreAccepted (priority_files (priority_file input) name) (mine ++ text ∷ []) rest
+  priority_accepted : (input : Input) (source : OrderSource) (name : Option (List ℕ))
+      (mine : List (List ℕ)) (text : List ℕ) (rest : List (List ℕ)) (system : TaskSystem) (order a : List ℕ)
+      → IsSystemOf input mine system → IsPriorityFrom source name (length system.tasks) text rest order a
+      → AreAccepted (priority_files (priority_file input) name) (mine ++ text ∷ []) rest
   priority_accepted input source None mine text rest system order a is_system is = tt
   priority_accepted input source (Some name) mine text [] system order a is_system is = absurd is
-  priority_accepted input source (Some name) mine text (f ∷ []) system order a is_system is = ((mine, text, system, a, refl, is_system, is), tt)
+  priority_accepted input source (Some name) mine text (f ∷ []) system order a is_system is =
+      ((mine, text, system, a, refl, is_system, is), tt)
   priority_accepted input source (Some name) mine text (f ∷ g ∷ fs) system order a is_system is = absurd is
 
-  pub report_accepted : (request : Request) (texts : List (List ℕ)) (a : Answer) → IsReport request texts a → AreAccepted (files_of request) [] texts
+  pub report_accepted : (request : Request) (texts : List (List ℕ)) (a : Answer)
+      → IsReport request texts a → AreAccepted (files_of request) [] texts
   report_accepted (replay input source) texts a (mine, text, s, order, split, is_system, is_order, is) =
-      with_input input (source_file source ∷ []) texts mine (text ∷ []) s split is_system (source_accepted source mine text order is_order, tt)
+      with_input input (source_file source ∷ []) texts mine
+      (text ∷ []) s split is_system (source_accepted source mine text order is_order, tt)
   report_accepted (tree m) texts a (nodes, is, e) = matrix_accepted m texts nodes is
   report_accepted (post input) texts a (nodes, is, best) = tree_accepted input texts nodes is
   report_accepted (check input name workers) texts a (mine, text, s, ps, plan, split, with_term, is_plan, is) =
-      with_input input (source_file (plan_named name) ∷ []) texts mine (text ∷ []) s split (work_has_system input mine s ps with_term) ((plan, is_plan), tt)
-  report_accepted (planning input format) texts a is = input_accepted input texts is.system (work_has_system input texts is.system is.positions is.with_term)
-  report_accepted (simulate input source s) texts a (mine, text, rest, system, order, priority, split, is_system, is_order, is_priority, is) =
-      with_input input (source_file source ∷ priority_files (priority_file input) s.priority) texts mine (text ∷ rest) system split is_system
-      (source_accepted source mine text order is_order, priority_accepted input source s.priority mine text rest system order priority is_system is_priority)
+      with_input input (source_file (plan_named name) ∷ []) texts mine (text ∷ []) s split
+      (work_has_system input mine s ps with_term) ((plan, is_plan), tt)
+  report_accepted (planning input format) texts a is =
+      input_accepted input texts is.system (work_has_system input texts is.system is.positions is.with_term)
+  report_accepted (simulate input source s) texts a
+      (mine, text, rest, system, order, priority, split, is_system, is_order, is_priority, is) =
+      with_input input (source_file source ∷ priority_files (priority_file input) s.priority) texts mine
+      (text ∷ rest) system split is_system (
+        source_accepted source mine text order is_order,
+        priority_accepted input source s.priority mine text rest system order priority is_system is_priority,
+      )
   report_accepted (demo made) texts a is = tt
   report_accepted (upgrade u) texts a (value, is, e) = upgrade_accepted u texts value is
   report_accepted (spill input source bound) texts a (mine, text, s, order, split, is_system, is_order, is) =
-      with_input input (source_file source ∷ []) texts mine (text ∷ []) s split is_system (source_accepted source mine text order is_order, tt)
+      with_input input (source_file source ∷ []) texts mine
+      (text ∷ []) s split is_system (source_accepted source mine text order is_order, tt)
   report_accepted (segments input) texts a (ps, numbered, is, answer) = numbered_accepted input texts ps numbered is
   report_accepted (fronts m bound workers) texts a (rows, order, is, made) = ordered_accepted m texts rows order is
   report_accepted (reduce name) texts a (text, graph, e, is, x) = subst (AreAccepted (files_of (reduce name)) []) (sym e) ((graph, is), tt)
@@ -217,9 +270,12 @@ module _ (r : Reports) where
 -- ---- refusals in turn
 
 module _
-    (not_both : (role : FileRole) (earlier : List (List ℕ)) (text : List ℕ) (answer : Answer) → HasValue role earlier text → IsRefusedInRole role earlier text answer → ⊥)
-    (one_refusal : (role : FileRole) (earlier : List (List ℕ)) (text : List ℕ) (a b : Answer) → IsRefusedInRole role earlier text a → IsRefusedInRole role earlier text b → a ≡ b) where
-  pub one_first_refusal : (files : List NamedFile) (earlier texts : List (List ℕ)) (a b : Answer) → IsFirstRefusal files earlier texts a → IsFirstRefusal files earlier texts b → a ≡ b
+    (not_both : (role : FileRole) (earlier : List (List ℕ)) (text : List ℕ) (answer : Answer)
+    → HasValue role earlier text → IsRefusedInRole role earlier text answer → ⊥)
+    (one_refusal : (role : FileRole) (earlier : List (List ℕ)) (text : List ℕ) (a b : Answer)
+    → IsRefusedInRole role earlier text a → IsRefusedInRole role earlier text b → a ≡ b) where
+  pub one_first_refusal : (files : List NamedFile) (earlier texts : List (List ℕ)) (a b : Answer)
+      → IsFirstRefusal files earlier texts a → IsFirstRefusal files earlier texts b → a ≡ b
   one_first_refusal [] earlier texts a b is is' = absurd is
   one_first_refusal (f ∷ fs) earlier [] a b is is' = absurd is
   one_first_refusal (f ∷ fs) earlier (t ∷ texts) a b (inl is) (inl is') = one_refusal f.role earlier t a b is is'
@@ -227,7 +283,8 @@ module _
   one_first_refusal (f ∷ fs) earlier (t ∷ texts) a b (inr is) (inl is') = absurd (not_both f.role earlier t b is.0 is')
   one_first_refusal (f ∷ fs) earlier (t ∷ texts) a b (inr is) (inr is') = one_first_refusal fs (earlier ++ t ∷ []) texts a b is.1 is'.1
 
-  pub none_refused : (files : List NamedFile) (earlier texts : List (List ℕ)) (a : Answer) → AreAccepted files earlier texts → IsFirstRefusal files earlier texts a → ⊥
+  pub none_refused : (files : List NamedFile) (earlier texts : List (List ℕ)) (a : Answer)
+      → AreAccepted files earlier texts → IsFirstRefusal files earlier texts a → ⊥
   none_refused [] earlier texts a accepted is = is
   none_refused (f ∷ fs) earlier [] a accepted is = is
   none_refused (f ∷ fs) earlier (t ∷ texts) a accepted (inl is) = not_both f.role earlier t a accepted.0 is

@@ -1,4 +1,5 @@
--- What `reduce` prints of a graph that has a term: a workflow file, whose system has the graph's traversals. And of one that has none: the arcs of a
+-- What `reduce` prints of a graph that has a term: a workflow file, whose system has the graph's traversals. And of one that has none: the
+-- arcs of a
 -- rest.
 use Rattle.std.proofs.Common.{◌≡◌, ◌∙◌, ◌↔◌, ◌≤◌, ℕ, List, length, map, sym, ap, subst, inl, inr}
 use Rattle.limits.specs.Limits.{most_bytes}
@@ -34,7 +35,8 @@ pub record AreLaws : Type 0 where
   pub short : (graph : TaskGraph) (positions : List Position) (names : List ℕ) → IsGraph graph → IsTerms positions
       → HasSystem names (term_of positions) (completed_system graph) → length (named_text positions names) ≤ most_bytes
 
-pub reduced : AreLaws → (texts : List (List ℕ)) (answer : Answer) → IsReduceOf texts answer → answer.status ≡ Done → IsReduced texts answer.text
+pub reduced : AreLaws → (texts : List (List ℕ)) (answer : Answer)
+    → IsReduceOf texts answer → answer.status ≡ Done → IsReduced texts answer.text
 reduced laws texts answer (text, graph, e, is, inl (positions, names, terms, has, a)) done =
     let whole = laws.read text graph is.1 in
     let printed : answer.text ≡ named_text positions names = ap (λ (x : Answer). x.text) a in
@@ -57,8 +59,10 @@ reduced laws texts answer (text, graph, e, is, inl (positions, names, terms, has
     }
 reduced laws texts answer (text, graph, e, is, inr (arcs, none, rest, a)) done = absurd (cc (sym (ap (λ (x : Answer). x.status) a) ∙ done))
 
-pub irreducible : (texts : List (List ℕ)) (answer : Answer) → IsReduceOf texts answer → answer.status ≡ NotSeriesParallel → HasIrreducibleRest texts answer.text
-irreducible texts answer (text, graph, e, is, inl (positions, names, terms, has, a)) ended = absurd (cc (sym (ap (λ (x : Answer). x.status) a) ∙ ended))
+pub irreducible : (texts : List (List ℕ)) (answer : Answer) → IsReduceOf texts answer
+    → answer.status ≡ NotSeriesParallel → HasIrreducibleRest texts answer.text
+irreducible texts answer (text, graph, e, is, inl (positions, names, terms, has, a)) ended =
+    absurd (cc (sym (ap (λ (x : Answer). x.status) a) ∙ ended))
 irreducible texts answer (text, graph, e, is, inr (arcs, none, rest, a)) ended =
     record {
       text = text;

@@ -21,13 +21,24 @@ pub checked : (input : Input) (mine : List (List ℕ)) (text : List ℕ) (origin
     → IsProblemOf input mine origin → IsPlanFile text plan → (positions : List Position) (verdict : Verdict) (answer : Answer)
     → IsTermOf origin positions → IsVerdict (system_of origin) positions plan verdict → answer ≡ verdict_answer verdict
     → IsReport (check input name workers) (mine ++ text ∷ []) answer
-checked input mine text origin plan name workers is_problem is_plan positions verdict answer term holds is =
-    (mine, text, system_of origin, positions, plan, refl, problem_has_term input mine origin positions is_problem term, is_plan, (verdict, holds, is))
+checked input mine text origin plan name workers is_problem is_plan positions verdict answer term holds is = (
+  mine,
+  text,
+  system_of origin,
+  positions,
+  plan,
+  refl,
+  problem_has_term input mine origin positions is_problem term,
+  is_plan,
+  (verdict, holds, is),
+)
 
 -- ---- a plan
 
-pub planned : (input : Input) (format : PlanFormat) (texts : List (List ℕ)) (origin : Origin) (positions : List Position) (plan : PlanValue) (answer : Answer)
-    → IsProblemOf input texts origin → IsTermOf origin positions → IsPlan plan → IsAccepted (system_of origin) positions plan → plan.priority ≡ []
+pub planned : (input : Input) (format : PlanFormat) (texts : List (List ℕ))
+    (origin : Origin) (positions : List Position) (plan : PlanValue) (answer : Answer)
+    → IsProblemOf input texts origin → IsTermOf origin positions → IsPlan plan
+    → IsAccepted (system_of origin) positions plan → plan.priority ≡ []
     → answer ≡ plan_answer format plan → IsReport (planning input format) texts answer
 planned input format texts origin positions plan answer is_problem term within accepted no_priority is = record {
   system = system_of origin;

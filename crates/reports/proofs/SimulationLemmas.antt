@@ -7,7 +7,8 @@ use Rattle.reports.specs.Simulate.{IsPriorityFrom, IsSimulation, setting_of}
 use Rattle.judging.specs.Priorities.{IsOwnPriority}
 use Rattle.judging.specs.Told.{AreTold}
 use Rattle.judging.specs.Judged.{IsStop, IsOrderedOf, IsPriorityOf, IsRefusedRanking, order_tasks, own_priority, priority_beside}
-use Rattle.requests.specs.Request.{Input, OrderSource, Simulation, FileRole, NamedFile, simulate, input_files, source_file, priority_file, priority_files, files_of}
+use Rattle.requests.specs.Request.{Input, OrderSource, Simulation, FileRole, NamedFile, simulate, input_files}
+use Rattle.requests.specs.Request.{source_file, priority_file, priority_files, files_of}
 use Rattle.judging.specs.declared.inputs.Priority.{Priority}
 use Rattle.judging.specs.declared.inputs.Priority.TheVariants as priorities
 use Rattle.judging.specs.declared.inputs.Order.{Order}
@@ -23,7 +24,8 @@ few_priority role None = omega arith
 few_priority role (Some name) = omega arith
 
 -- a priority that was judged is the one that is meant
-priority_from : (source : OrderSource) (name : Option (List ℕ)) (n : ℕ) (text : List ℕ) (rest : List (List ℕ)) (order : Order) (priority : Priority)
+priority_from :
+    (source : OrderSource) (name : Option (List ℕ)) (n : ℕ) (text : List ℕ) (rest : List (List ℕ)) (order : Order) (priority : Priority)
     → IsOwnPriority source text (order_tasks order) (own_priority order) → IsPriorityOf name n rest priority
     → IsPriorityFrom source name n text rest (order_tasks order) (priority_beside order priority)
 priority_from source None n text [] order priorities.Own own is = own
@@ -51,17 +53,29 @@ module _ (told : List ℕ → Option (List ℕ)) (input : Input) (source : Order
   stop_of_all before after e = subst (λ (fs : List NamedFile). IsStop told before after fs (IsFirstRefusal fs []) e) whole
 
   module _ (ordered : OrderedProblem) where
-    pub ranking_refused : (name : Option (List ℕ)) (one two : List (List ℕ)) (answer : Answer) → IsOrderedOf input source one ordered → AreTold told (priority_files (priority_file input) name) two
-        → IsRefusedRanking (length (system_of ordered.problem).tasks) two answer → IsFirstRefusal (priority_files (priority_file input) name) one two answer
+    pub ranking_refused : (name : Option (List ℕ)) (one two : List (List ℕ)) (answer : Answer)
+        → IsOrderedOf input source one ordered → AreTold told (priority_files (priority_file input) name) two
+        → IsRefusedRanking (length (system_of ordered.problem).tasks) two answer
+        → IsFirstRefusal (priority_files (priority_file input) name) one two answer
     ranking_refused None one [] answer is are refused = absurd refused
     ranking_refused None one (t ∷ two) answer is are refused = absurd are
     ranking_refused (Some name) one [] answer is are refused = absurd refused
     ranking_refused (Some name) one (t ∷ two) answer is are refused =
-        inl (is.mine, is.text, system_of ordered.problem, is.texts_are, problem_has_system input is.mine ordered.problem is.is_problem, refused)
+        inl (
+          is.mine,
+          is.text,
+          system_of ordered.problem,
+          is.texts_are,
+          problem_has_system input is.mine ordered.problem is.is_problem,
+          refused,
+        )
 
-    pub simulated : (are_ordered : (texts : List (List ℕ)) → AreTold told first texts → IsOrderedOf input source texts ordered) (priority : Priority) (answer : Answer)
-        → ((texts : List (List ℕ)) → AreTold told more texts → IsPriorityOf s.priority (length (system_of ordered.problem).tasks) texts priority)
-        → IsSimulation (setting_of (system_of ordered.problem) (order_tasks ordered.order) s) (priority_beside ordered.order priority) answer
+    pub simulated : (are_ordered : (texts : List (List ℕ)) → AreTold told first texts → IsOrderedOf input source texts ordered)
+        (priority : Priority) (answer : Answer)
+        → ((texts : List (List ℕ)) → AreTold told more texts
+        → IsPriorityOf s.priority (length (system_of ordered.problem).tasks) texts priority)
+        → IsSimulation (setting_of (system_of ordered.problem) (order_tasks ordered.order) s)
+        (priority_beside ordered.order priority) answer
         → (texts : List (List ℕ)) → AreTold told (files_of (simulate input source s)) texts
         → IsReport (simulate input source s) texts answer
     simulated are_ordered priority answer is_priority is texts are =
@@ -79,6 +93,7 @@ module _ (told : List ℕ → Option (List ℕ)) (input : Input) (source : Order
           split,
           problem_has_system input work.mine ordered.problem work.is_problem,
           work.is_order.0,
-          priority_from source s.priority (length system.tasks) work.text two ordered.order priority work.is_order.1 (is_priority two are_two),
+          priority_from source s.priority
+              (length system.tasks) work.text two ordered.order priority work.is_order.1 (is_priority two are_two),
           is,
         )) texts (subst (λ fs. AreTold told fs texts) (sym whole) are)

@@ -1,5 +1,6 @@
 -- What `spill` prints: the items of which some is spilled, and the volume of the plan that their amounts make.
-use Rattle.std.proofs.Common.{◌≡◌, ◌∙◌, ◌+◌, ◌<◌, ◌≤◌, ℕ, zero, suc, Bool, true, false, cond, List, [], ◌∷◌, ◌++◌, length, map, take, get_or, refl, sym, ap, ap₂, inl, inr, arith}
+use Rattle.std.proofs.Common.{◌≡◌, ◌∙◌, ◌+◌, ◌<◌, ◌≤◌, ℕ, zero, suc, Bool, true, false, cond, List, [], ◌∷◌}
+use Rattle.std.proofs.Common.{◌++◌, length, map, take, get_or, refl, sym, ap, ap₂, inl, inr, arith}
 use Rattle.std.specs.Prelude.{sum, nat_lt, decimal}
 use Rattle.std.specs.List.{filter, enumerate_from}
 use Rattle.std.proofs.lemmas.Bool.{lt-ltb, le-ltb}
@@ -44,13 +45,15 @@ one_more amounts i h b is =
     ∙ map-append amount_line (filter is_spilled (take i all)) (cond (is_spilled (get_or all i (0, 0))) (get_or all i (0, 0) ∷ []) [])
     ∙ ap (λ (ps : List (ℕ × ℕ)). lines_before amounts i ++ map amount_line ps) (ap₂ picked test here)
 
-pub skipped : (amounts : List ℕ) (i : ℕ) → i < length amounts → get_or amounts i 0 ≤ 0 → lines_before amounts (i + 1) ≡ lines_before amounts i
+pub skipped : (amounts : List ℕ) (i : ℕ) → i < length amounts
+    → get_or amounts i 0 ≤ 0 → lines_before amounts (i + 1) ≡ lines_before amounts i
 skipped amounts i h none = one_more amounts i h false (le-ltb 0 (get_or amounts i 0) none) ∙ append-nil (lines_before amounts i)
 
 pub printed : ((text : List ℕ) (lines : List (List (List ℕ))) (line : List (List ℕ))
     → (text ++ text_of_lines lines) ++ line_text line ≡ text ++ text_of_lines (lines ++ line ∷ []))
     → (amounts : List ℕ) (i : ℕ) → i < length amounts → 0 < get_or amounts i 0 → (start before after : List ℕ)
-    → before ≡ start ++ text_of_lines (lines_before amounts i) → after ≡ before ++ line_text (decimal (i + 1) ∷ decimal (get_or amounts i 0) ∷ [])
+    → before ≡ start ++ text_of_lines (lines_before amounts i)
+    → after ≡ before ++ line_text (decimal (i + 1) ∷ decimal (get_or amounts i 0) ∷ [])
     → after ≡ start ++ text_of_lines (lines_before amounts (i + 1))
 printed more amounts i h some start before after was is =
     let line = decimal (i + 1) ∷ decimal (get_or amounts i 0) ∷ [] in
@@ -58,7 +61,8 @@ printed more amounts i h some start before after was is =
     ∙ ap (λ (ls : List (List (List ℕ))). start ++ text_of_lines ls) (sym (one_more amounts i h true (lt-ltb 0 (get_or amounts i 0) some)))
 
 -- as many as there are amounts above 0
-pub as_many : (first : ℕ) (amounts : List ℕ) → length (filter (λ a. nat_lt 0 a) amounts) ≡ length (filter is_spilled (enumerate_from first amounts))
+pub as_many : (first : ℕ) (amounts : List ℕ)
+    → length (filter (λ a. nat_lt 0 a) amounts) ≡ length (filter is_spilled (enumerate_from first amounts))
 as_many first [] = refl
 as_many first (a ∷ amounts) =
     let rest = as_many (first + 1) amounts in
@@ -92,9 +96,11 @@ pub spilled : (input : Input) (source : OrderSource) (bound : ℕ) (texts : List
     → IsSpillOf input source bound texts answer → answer.status ≡ Done → IsSpilled input source bound texts answer.text
 spilled input source bound texts answer (mine, text, system, order, split, is_system, is_order, inl (place, kind, fault, e)) done =
     absurd (cc (sym (ap (λ (a : Answer). a.status) e) ∙ done))
-spilled input source bound texts answer (mine, text, system, order, split, is_system, is_order, inr (inl (step, need, traversal, first, e))) done =
+spilled input source bound texts answer
+    (mine, text, system, order, split, is_system, is_order, inr (inl (step, need, traversal, first, e))) done =
     absurd (cc (sym (ap (λ (a : Answer). a.status) e) ∙ done))
-spilled input source bound texts answer (mine, text, system, order, split, is_system, is_order, inr (inr (volume, amounts, traversal, is, e))) done =
+spilled input source bound texts answer
+    (mine, text, system, order, split, is_system, is_order, inr (inr (volume, amounts, traversal, is, e))) done =
     let plan = plan_by_amounts system order amounts in
     record {
       mine = mine;

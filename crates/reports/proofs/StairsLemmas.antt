@@ -1,5 +1,6 @@
 -- What `segments` prints: the terms that have a number, each with its staircases.
-use Rattle.std.proofs.Common.{◌≡◌, ◌∙◌, ℕ, zero, suc, ◌+◌, ◌-◌, ◌<◌, List, [], ◌∷◌, length, map, get_or, refl, sym, ap, subst, inl, inr, arith}
+use Rattle.std.proofs.Common.{◌≡◌, ◌∙◌, ℕ, zero, suc, ◌+◌, ◌-◌, ◌<◌, List, [], ◌∷◌, length}
+use Rattle.std.proofs.Common.{map, get_or, refl, sym, ap, subst, inl, inr, arith}
 use Rattle.std.specs.Prelude.{Contains}
 use Rattle.std.specs.List.{enumerate_from, range_with_len}
 use Rattle.std.proofs.lemmas.List.{get_or-map}
@@ -13,7 +14,8 @@ use Rattle.sp_cuts.specs.Stairs.{BothSteps, IsStaircaseOf, AreStairsOf, AreStair
 use Rattle.judging.specs.Files.{Answer, AreAccepted}
 use Rattle.judging.specs.Judged.{AreWithin}
 use Rattle.requests.specs.Request.{Input, tree_input, workflow_named, input_files}
-use Rattle.reports.specs.Segments.{IsSegmentsAnswer, IsSegmentsOf, IsReached, ReportRow, no_steps, report_row_at, report_rows, segments_answer, steps_in}
+use Rattle.reports.specs.Segments.{IsSegmentsAnswer, IsSegmentsOf, IsReached, ReportRow, no_steps}
+use Rattle.reports.specs.Segments.{report_row_at, report_rows, segments_answer, steps_in}
 use Rattle.judging.specs.Numbered.{IsNumberedTerm}
 use Rattle.judging.specs.declared.status.Status.TheVariants.{Done}
 use Rattle.judging.proofs.InputLemmas.{tree_accepted}
@@ -43,11 +45,13 @@ each_row ps all numbered stairs within row (i, h, is) =
     subst (λ (r : ReportRow). AreStairsOf r.term r.steps) (sym (row_is ps all numbered i row short) ∙ is)
     (stairs_at ps 0 (k - 1) (k - 1) all stairs.each (omega (arith, at.0, at.1, stairs.many)) (omega arith))
 
-numbers_from : (ps : List Position) (all : List BothSteps) (n : ℕ) (ks : List ℕ) → map (λ row. row.number) (map (report_row_at ps all) (enumerate_from n ks)) ≡ range_with_len n (length ks)
+numbers_from : (ps : List Position) (all : List BothSteps) (n : ℕ) (ks : List ℕ)
+    → map (λ row. row.number) (map (report_row_at ps all) (enumerate_from n ks)) ≡ range_with_len n (length ks)
 numbers_from ps all n [] = refl
 numbers_from ps all n (k ∷ ks) = ap (λ (ns : List ℕ). n ∷ ns) (numbers_from ps all (n + 1) ks)
 
-terms_from : (ps : List Position) (all : List BothSteps) (n : ℕ) (ks : List ℕ) → map (λ row. row.term) (map (report_row_at ps all) (enumerate_from n ks)) ≡ map (term_of_position ps) ks
+terms_from : (ps : List Position) (all : List BothSteps) (n : ℕ) (ks : List ℕ)
+    → map (λ row. row.term) (map (report_row_at ps all) (enumerate_from n ks)) ≡ map (term_of_position ps) ks
 terms_from ps all n [] = refl
 terms_from ps all n (k ∷ ks) = ap (λ (ts : List Term). term_of_position ps k ∷ ts) (terms_from ps all (n + 1) ks)
 
@@ -58,8 +62,10 @@ staircase_in backward row are = are.back
 -- ---- what is said of staircases that were printed
 
 pub reached : EachStepIsReached
-    → ((input : Input) (texts : List (List ℕ)) (ps : List Position) (ks : List ℕ) → IsNumberedTerm input texts ps ks → AreWithin (length ps) ks)
-    → (input : Input) (texts : List (List ℕ)) (answer : Answer) → IsSegmentsOf input texts answer → answer.status ≡ Done → IsReached input texts answer.text
+    → ((input : Input) (texts : List (List ℕ)) (ps : List Position) (ks : List ℕ)
+    → IsNumberedTerm input texts ps ks → AreWithin (length ps) ks)
+    → (input : Input) (texts : List (List ℕ)) (answer : Answer)
+    → IsSegmentsOf input texts answer → answer.status ≡ Done → IsReached input texts answer.text
 reached each within input texts answer (ps, numbered, is, inl (passes, e)) done = absurd (cc (sym (ap (λ (a : Answer). a.status) e) ∙ done))
 reached each within input texts answer (ps, numbered, is, inr (all, stairs, few, e)) done =
     let rows = each_row ps all numbered stairs (within input texts ps numbered is) in
@@ -78,7 +84,8 @@ reached each within input texts answer (ps, numbered, is, inr (all, stairs, few,
 
 -- ---- there is one answer
 
-one_answer : OneStairs → (input : Input) (ps : List Position) (numbered : List ℕ) (a b : Answer) → IsSegmentsAnswer input ps numbered a → IsSegmentsAnswer input ps numbered b → a ≡ b
+one_answer : OneStairs → (input : Input) (ps : List Position) (numbered : List ℕ) (a b : Answer)
+    → IsSegmentsAnswer input ps numbered a → IsSegmentsAnswer input ps numbered b → a ≡ b
 one_answer one input ps numbered a b (inl (passes, e)) (inl (passes', e')) = e ∙ sym e'
 one_answer one input ps numbered a b (inl (passes, e)) (inr (all, stairs, few, e')) =
     absurd (omega (arith, passes.many, few, ap step_total (one ps passes.all all passes.are stairs)))
@@ -87,14 +94,16 @@ one_answer one input ps numbered a b (inr (all, stairs, few, e)) (inl (passes, e
 one_answer one input ps numbered a b (inr (all, stairs, few, e)) (inr (others, stairs', few', e')) =
     e ∙ ap (λ (ss : List BothSteps). segments_answer (report_rows ps ss numbered)) (one ps all others stairs stairs') ∙ sym e'
 
-pub one_segments : ((input : Input) (texts : List (List ℕ)) (ps qs : List Position) (ks ls : List ℕ) → IsNumberedTerm input texts ps ks → IsNumberedTerm input texts qs ls
+pub one_segments : ((input : Input) (texts : List (List ℕ)) (ps qs : List Position) (ks ls : List ℕ)
+    → IsNumberedTerm input texts ps ks → IsNumberedTerm input texts qs ls
     → (ps ≡ qs) × (ks ≡ ls) × AreWithin (length ps) ks)
     → OneStairs → (input : Input) (texts : List (List ℕ)) (a b : Answer) → IsSegmentsOf input texts a → IsSegmentsOf input texts b → a ≡ b
 one_segments same one input texts a b (ps, ks, is, told) (qs, ls, is', told') =
     let e = same input texts ps qs ks ls is is' in
     one_answer one input ps ks a b told (coe 1 0 (i. IsSegmentsAnswer input (e.0 i) (e.1 i) b) told')
 
-pub numbered_accepted : (input : Input) (texts : List (List ℕ)) (ps : List Position) (numbered : List ℕ) → IsNumberedTerm input texts ps numbered → AreAccepted (input_files input) [] texts
+pub numbered_accepted : (input : Input) (texts : List (List ℕ)) (ps : List Position) (numbered : List ℕ)
+    → IsNumberedTerm input texts ps numbered → AreAccepted (input_files input) [] texts
 numbered_accepted (tree_input input) texts ps numbered (nodes, forest, is, is_forest, at, numbers) = tree_accepted input texts nodes is
 numbered_accepted (workflow_named name) [] ps numbered is = absurd is
 numbered_accepted (workflow_named name) (text ∷ []) ps numbered (workflow, numbers) = ((ps, workflow), tt)

@@ -17,8 +17,10 @@ use Rattle.tree_files.specs.TreeText.{tree_text_2}
 use Rattle.judging.specs.Files.{Answer, IsTreeFile, IsWorkflowFile, IsPlanFile, IsFirstRefusal, AreAccepted}
 use Rattle.judging.specs.Told.{AreTold}
 use Rattle.judging.specs.Judged.{IsPriorityOf, IsRefusedRanking}
-use Rattle.requests.specs.Request.{Upgrade, tree_upgrade, workflow_upgrade, plan_upgrade, NamedFile, plan_file, plan_priority_file, priority_files, upgrade_files}
-use Rattle.reports.specs.Upgrade.{Versioned, tree_value, workflow_value, plan_value, text_2, IsFileOf, with_priority, IsUpgradedFrom, upgrade_answer, IsUpgradeOf, IsUpgraded, upgrade_again}
+use Rattle.requests.specs.Request.{Upgrade, tree_upgrade, workflow_upgrade, plan_upgrade, NamedFile}
+use Rattle.requests.specs.Request.{plan_file, plan_priority_file, priority_files, upgrade_files}
+use Rattle.reports.specs.Upgrade.{Versioned, tree_value, workflow_value, plan_value, text_2, IsFileOf, with_priority}
+use Rattle.reports.specs.Upgrade.{IsUpgradedFrom, upgrade_answer, IsUpgradeOf, IsUpgraded, upgrade_again}
 use Rattle.judging.specs.declared.inputs.Priority.{Priority}
 use Rattle.judging.specs.declared.inputs.Priority.TheVariants as priorities
 use Rattle.judging.specs.declared.status.Status.TheVariants.{Done}
@@ -42,7 +44,8 @@ pub ranked : (n : ℕ) (priority : List ℕ) → IsPerm n priority → IsPriorit
 ranked n priority perm = inr perm
 
 -- a plan stays one with a priority that ranks each of its tasks
-ranked_plan : (plan : PlanValue) (priority : List ℕ) → IsPlan plan → IsPerm (length plan.order) priority → IsPlan (with_priority plan priority)
+ranked_plan : (plan : PlanValue) (priority : List ℕ) → IsPlan plan
+    → IsPerm (length plan.order) priority → IsPlan (with_priority plan priority)
 ranked_plan plan priority is perm = record {
   few_tasks = is.few_tasks;
   tasks = is.tasks;
@@ -88,17 +91,22 @@ module _ (k : Kinds) where
   says_it : (value own : Versioned) → value ≡ own → IsFileOf (text_2 own) own → IsFileOf (text_2 value) value
   says_it value own same is = subst (λ (v : Versioned). IsFileOf (text_2 v) v) (sym same) is
 
-  pub upgraded_file : (u : Upgrade) (texts : List (List ℕ)) (value : Versioned) → IsUpgradedFrom u texts value → IsFileOf (text_2 value) value
+  pub upgraded_file : (u : Upgrade) (texts : List (List ℕ)) (value : Versioned)
+      → IsUpgradedFrom u texts value → IsFileOf (text_2 value) value
   upgraded_file (tree_upgrade name) texts value (t, x, e, is, v) = says_it value (tree_value x) v (written_tree x (k.trees.kept t x is.1))
-  upgraded_file (workflow_upgrade name) texts value (t, x, e, is, v) = says_it value (workflow_value x) v (written_workflow x (k.workflows.kept t x is.1))
-  upgraded_file (plan_upgrade name None) texts value (t, x, e, is, v) = says_it value (plan_value x) v (written_plan x (k.plans.kept t x is.1))
+  upgraded_file (workflow_upgrade name) texts value (t, x, e, is, v) =
+      says_it value (workflow_value x) v (written_workflow x (k.workflows.kept t x is.1))
+  upgraded_file (plan_upgrade name None) texts value (t, x, e, is, v) =
+      says_it value (plan_value x) v (written_plan x (k.plans.kept t x is.1))
   upgraded_file (plan_upgrade name (Some given)) texts value (t, s, x, q, e, is, ranks, v) =
       let ranked = with_priority x q in
-      says_it value (plan_value ranked) v (written_plan ranked (ranked_plan x q (k.plans.kept t x is.1) (k.perm (length x.order) s q ranks.1)))
+      says_it value (plan_value ranked) v
+      (written_plan ranked (ranked_plan x q (k.plans.kept t x is.1) (k.perm (length x.order) s q ranks.1)))
 
 -- ---- files that have values
 
-pub upgrade_accepted : (u : Upgrade) (texts : List (List ℕ)) (value : Versioned) → IsUpgradedFrom u texts value → AreAccepted (upgrade_files u) [] texts
+pub upgrade_accepted : (u : Upgrade) (texts : List (List ℕ)) (value : Versioned)
+    → IsUpgradedFrom u texts value → AreAccepted (upgrade_files u) [] texts
 upgrade_accepted (tree_upgrade name) texts value (t, x, e, is, v) =
     subst (AreAccepted (upgrade_files (tree_upgrade name)) []) (sym e) ((x, is), tt)
 upgrade_accepted (workflow_upgrade name) texts value (t, x, e, is, v) =
@@ -139,7 +147,8 @@ module _ (told : List ℕ → Option (List ℕ)) (name : List ℕ) (plan : PlanV
       (λ text is. refused_after_plan given text two answer (is_plan text is) more refused) one are
 
   beside : (given : Option (List ℕ)) (text : List ℕ) (two : List (List ℕ)) (priority : Priority) → IsPlanFile text plan
-      → IsPriorityOf given (length plan.order) two priority → IsUpgradedFrom (plan_upgrade name given) (text ∷ two) (plan_value (plan_beside plan priority))
+      → IsPriorityOf given (length plan.order) two priority
+      → IsUpgradedFrom (plan_upgrade name given) (text ∷ two) (plan_value (plan_beside plan priority))
   beside None text [] priorities.Own is ranks = (text, plan, refl, is, refl)
   beside None text [] (priorities.Given numbers) is ranks = absurd ranks
   beside None text (t ∷ two) priority is ranks = absurd ranks
@@ -149,7 +158,8 @@ module _ (told : List ℕ → Option (List ℕ)) (name : List ℕ) (plan : PlanV
   beside (Some given) text (file ∷ more ∷ two) priority is ranks = absurd ranks
 
   pub upgraded_plan : (given : Option (List ℕ)) (priority : Priority)
-      → ((texts : List (List ℕ)) → AreTold told (priority_files plan_priority_file given) texts → IsPriorityOf given (length plan.order) texts priority)
+      → ((texts : List (List ℕ)) → AreTold told (priority_files plan_priority_file given) texts
+      → IsPriorityOf given (length plan.order) texts priority)
       → (texts : List (List ℕ)) → AreTold told (upgrade_files (plan_upgrade name given)) texts
       → IsUpgradedFrom (plan_upgrade name given) texts (plan_value (plan_beside plan priority))
   upgraded_plan given priority is_priority =
@@ -160,7 +170,8 @@ module _ (told : List ℕ → Option (List ℕ)) (name : List ℕ) (plan : PlanV
 
 -- ---- answers
 
-pub one_upgrade_answer : ((u : Upgrade) (texts : List (List ℕ)) (a b : Versioned) → IsUpgradedFrom u texts a → IsUpgradedFrom u texts b → a ≡ b)
+pub one_upgrade_answer :
+    ((u : Upgrade) (texts : List (List ℕ)) (a b : Versioned) → IsUpgradedFrom u texts a → IsUpgradedFrom u texts b → a ≡ b)
     → (u : Upgrade) (texts : List (List ℕ)) (a b : Answer) → IsUpgradeOf u texts a → IsUpgradeOf u texts b → a ≡ b
 one_upgrade_answer one u texts a b (x, is, e) (y, is', e') = e ∙ ap upgrade_answer (one u texts x y is is') ∙ sym e'
 
@@ -180,15 +191,20 @@ upgraded file u texts answer (value, is, e) =
 says : (printed : List ℕ) (value own : Versioned) → value ≡ own → IsFileOf printed value → IsFileOf printed own
 says printed value own same is = subst (IsFileOf printed) same is
 
-from_printed : (u : Upgrade) (texts : List (List ℕ)) (name printed : List ℕ) (value : Versioned) → IsUpgradedFrom u texts value → IsFileOf printed value
+from_printed : (u : Upgrade) (texts : List (List ℕ)) (name printed : List ℕ) (value : Versioned)
+    → IsUpgradedFrom u texts value → IsFileOf printed value
     → IsUpgradedFrom (upgrade_again u name) (printed ∷ []) value
-from_printed (tree_upgrade own) texts name printed value (t, x, e, is, v) file = (printed, x, refl, says printed value (tree_value x) v file, v)
-from_printed (workflow_upgrade own) texts name printed value (t, x, e, is, v) file = (printed, x, refl, says printed value (workflow_value x) v file, v)
-from_printed (plan_upgrade own None) texts name printed value (t, x, e, is, v) file = (printed, x, refl, says printed value (plan_value x) v file, v)
+from_printed (tree_upgrade own) texts name printed value (t, x, e, is, v) file =
+    (printed, x, refl, says printed value (tree_value x) v file, v)
+from_printed (workflow_upgrade own) texts name printed value (t, x, e, is, v) file =
+    (printed, x, refl, says printed value (workflow_value x) v file, v)
+from_printed (plan_upgrade own None) texts name printed value (t, x, e, is, v) file =
+    (printed, x, refl, says printed value (plan_value x) v file, v)
 from_printed (plan_upgrade own (Some given)) texts name printed value (t, s, x, q, e, is, ranks, v) file =
     let ranked = with_priority x q in (printed, ranked, refl, says printed value (plan_value ranked) v file, v)
 
-pub printed_again : (u : Upgrade) (texts : List (List ℕ)) (name : List ℕ) (answer : Answer) → answer.status ≡ Done → IsUpgraded u texts answer.text
+pub printed_again : (u : Upgrade) (texts : List (List ℕ)) (name : List ℕ) (answer : Answer)
+    → answer.status ≡ Done → IsUpgraded u texts answer.text
     → IsUpgradeOf (upgrade_again u name) (answer.text ∷ []) answer
 printed_again u texts name answer done is =
     let whole : answer ≡ upgrade_answer is.value = λ i. record { status = done i; text = is.printed_is i } in

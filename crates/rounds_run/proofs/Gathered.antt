@@ -1,5 +1,6 @@
 -- What is gathered for a column, in rising order, is its structure.
-use Rattle.std.proofs.Common.{◌≡◌, ◌↔◌, ℕ, ◌<◌, ◌≤◌, inl, inr, true, ◌||◌, eqb, ltb, IsTrue, List, length, get_or, sym, ap, subst, ◌∙◌, arith}
+use Rattle.std.proofs.Common.{◌≡◌, ◌↔◌, ℕ, ◌<◌, ◌≤◌, inl, inr, true, ◌||◌, eqb, ltb, IsTrue}
+use Rattle.std.proofs.Common.{List, length, get_or, sym, ap, subst, ◌∙◌, arith}
 use Rattle.std.specs.List.{list_any, dedup, Contains}
 use Rattle.std.specs.List.Sorted.{IsPermutation, IsSorted}
 use Rattle.std.specs.Ordering.{nat_cmp}
@@ -95,7 +96,8 @@ module _ (rows : List (List ℕ)) (order : List ℕ) (is : IsOrdered rows order)
       → IsPermutation list sorted → IsSorted nat_cmp sorted
       → dedup eqb sorted ≡ rows_of_front (renumbered (is_joined rows) order) (length order) j
   gathered_rows j vertex lists children list sorted holds moved rises =
-      rising_same (dedup eqb sorted) (rows_of_front (renumbered (is_joined rows) order) (length order) j) (IsStrictlyIncreasing-dedup sorted rises)
+      rising_same (dedup eqb sorted) (rows_of_front (renumbered (is_joined rows) order) (length order) j)
+      (IsStrictlyIncreasing-dedup sorted rises)
       (rows_rise _ _ laws j)
       (λ z. has_dedup sorted z ∙ sym (list_any-IsPermutation (λ y. eqb y z) list sorted moved) ∙ holds z
       ∙ gathered_is j vertex lists children z ∙ sym (has_rows _ _ laws j z vertex))

@@ -1,7 +1,9 @@
 -- What is held, as tasks take the lists of their children and hand back their own.
-use Rattle.std.proofs.Common.{◌≡◌, ◌≢◌, ℕ, ◌-◌, ◌<◌, ◌≤◌, inl, inr, Bool, true, false, ◌||◌, cond, eqb, List, [], ◌∷◌, ◌++◌, length, get_or, set, replicate, refl, sym, ap, subst, ◌∙◌, arith}
+use Rattle.std.proofs.Common.{◌≡◌, ◌≢◌, ℕ, ◌-◌, ◌<◌, ◌≤◌, inl, inr, Bool, true, false, ◌||◌, cond, eqb, List, []}
+use Rattle.std.proofs.Common.{◌∷◌, ◌++◌, length, get_or, set, replicate, refl, sym, ap, subst, ◌∙◌, arith}
 use Rattle.std.proofs.Math.Bool.{or-false}
-use Rattle.std.proofs.lemmas.Bool.{cases_eq, both_ways, eq-eqb, ne_eqb, eqb-true, eqb-false, or_parts, or_cases, or_left, or_right, cond-true, cond-false}
+use Rattle.std.proofs.lemmas.Bool.{cases_eq, both_ways, eq-eqb, ne_eqb, eqb-true, eqb-false, or_parts}
+use Rattle.std.proofs.lemmas.Bool.{or_cases, or_left, or_right, cond-true, cond-false}
 use Rattle.std.proofs.lemmas.List.{get_or-set_same, get_or-set_other, length-set, length-replicate, get_or-replicate}
 use Rattle.std.proofs.lemmas.List.Folds.{list_any-append}
 use Rattle.patterns.specs.Pattern.{has}
@@ -17,7 +19,8 @@ in_lists_push lists list i =
     list_any-append (λ z. has z i) lists (list ∷ []) ∙ ap (λ (b : Bool). in_lists lists i || b) (or-false (has list i))
 
 -- nothing is made yet
-pub held_first : (f : Factor) (held : Held) (n : ℕ) → length f.supers ≡ n → held.rows.items ≡ replicate n [] → held.inboxes.items ≡ replicate n []
+pub held_first : (f : Factor) (held : Held) (n : ℕ) → length f.supers ≡ n
+    → held.rows.items ≡ replicate n [] → held.inboxes.items ≡ replicate n []
     → IsHeld f (λ _. false) (λ _. false) held
 held_first f held n many rows inboxes = record {
   rows_long = ap (λ (z : List (List ℕ)). length z) rows ∙ length-replicate n [] ∙ sym many;
@@ -25,7 +28,8 @@ held_first f held n many rows inboxes = record {
   kept = λ s super done. absurd (both_ways _ refl done);
   handed = λ s super taken i.
       let none : get_or held.inboxes.items (s - 1) [] ≡ [] =
-      ap (λ (z : List (List (List ℕ))). get_or z (s - 1) []) inboxes ∙ get_or-replicate n (s - 1) [] [] (omega (arith, super.0, super.1, many)) in (
+      ap (λ (z : List (List (List ℕ))). get_or z (s - 1) []) inboxes
+      ∙ get_or-replicate n (s - 1) [] [] (omega (arith, super.0, super.1, many)) in (
         λ there. absurd (both_ways _ refl (ap (λ z. in_lists z i) (sym none) ∙ there)),
         λ handed. absurd (both_ways _ refl handed.3),
       );
@@ -100,7 +104,8 @@ held_made f taken done also s made old new super inside rows inboxes is_made mor
       handed = λ t there left i. elim (cases_eq p t) [
         | inl e ↦ (
             let here = is.handed t there left i in
-            let list : in_lists (get_or new.inboxes.items (t - 1) []) i ≡ (in_lists (get_or old.inboxes.items (t - 1) []) i || has made.rest i) =
+            let list :
+            in_lists (get_or new.inboxes.items (t - 1) []) i ≡ (in_lists (get_or old.inboxes.items (t - 1) []) i || has made.rest i) =
             own_inbox t i e there in (
               λ now. elim (or_cases (in_lists (get_or old.inboxes.items (t - 1) []) i) (has made.rest i) (sym list ∙ now)) [
                 | inl before ↦ (let h = here.0 before in (h.0, h.1, h.2, more h.0 ∙ or_left _ _ h.3, h.4))
@@ -122,19 +127,22 @@ held_made f taken done also s made old new super inside rows inboxes is_made mor
             let here = is.handed t there left i in
             let same = other_inbox t ne there.0 in (
               λ now. (let h = here.0 (ap (λ z. in_lists z i) (sym same) ∙ now) in (h.0, h.1, h.2, more h.0 ∙ or_left _ _ h.3, h.4)),
-              λ h. ap (λ z. in_lists z i) same ∙ here.1 (h.0, h.1, h.2, earlier h.0 (λ e. ne (ap (λ (z : ℕ). (super_at f.supers z).parent) e ∙ h.2)) h.3, h.4),
+              λ h. ap (λ z. in_lists z i) same
+                  ∙ here.1 (h.0, h.1, h.2, earlier h.0 (λ e. ne (ap (λ (z : ℕ). (super_at f.supers z).parent) e ∙ h.2)) h.3, h.4),
             )
             )
       ];
     }
   where
     earlier : (t : ℕ) → s ≢ t → also t ≡ true → done t ≡ true
-    earlier t ne d = elim (or_cases (done t) (eqb s t) (sym (more t) ∙ d)) [ inl before ↦ before | inr same ↦ absurd (ne (eqb-true s t same)) ]
+    earlier t ne d =
+        elim (or_cases (done t) (eqb s t) (sym (more t) ∙ d)) [ inl before ↦ before | inr same ↦ absurd (ne (eqb-true s t same)) ]
 
     other_inbox : (t : ℕ) → (super_at f.supers s).parent ≢ t → 1 ≤ t
         → get_or new.inboxes.items (t - 1) [] ≡ get_or old.inboxes.items (t - 1) []
     other_inbox t ne low = elim (cases_eq (super_at f.supers s).parent 0) [
-      | inl root ↦ ap (λ (z : List (List (List ℕ))). get_or z (t - 1) []) (inboxes ∙ cond-true _ _ _ (eq-eqb (super_at f.supers s).parent 0 root))
+      | inl root ↦
+          ap (λ (z : List (List (List ℕ))). get_or z (t - 1) []) (inboxes ∙ cond-true _ _ _ (eq-eqb (super_at f.supers s).parent 0 root))
       | inr child ↦ (
           let other : t - 1 ≢ (super_at f.supers s).parent - 1 = λ e. ne (omega (arith, e, low, child)) in
           ap (λ (z : List (List (List ℕ))). get_or z (t - 1) []) (inboxes ∙ cond-false _ _ _ (ne_eqb (super_at f.supers s).parent 0 child))

@@ -1,5 +1,6 @@
 -- What is in a list of numbers, and lists that rise.
-use Rattle.std.proofs.Common.{◌≡◌, ℕ, ◌+◌, ◌<◌, ◌≤◌, inl, inr, Bool, true, false, ◌&&◌, ◌||◌, eqb, List, [], ◌∷◌, ◌++◌, length, drop, refl, sym, ap, ◌∙◌, arith}
+use Rattle.std.proofs.Common.{◌≡◌, ℕ, ◌+◌, ◌<◌, ◌≤◌, inl, inr, Bool, true, false, ◌&&◌, ◌||◌, eqb}
+use Rattle.std.proofs.Common.{List, [], ◌∷◌, ◌++◌, length, drop, refl, sym, ap, ◌∙◌, arith}
 use Rattle.std.specs.List.{filter, range_with_len}
 use Rattle.std.specs.List.Sorted.{IsStrictlyIncreasing}
 use Rattle.std.proofs.lemmas.Bool.{cases_eq, cases_Bool, eq-eqb, ne_eqb}
@@ -22,7 +23,8 @@ has_append xs ys y = list_any-append (λ z. eqb z y) xs ys
 -- two that have the same numbers are one
 
 -- one that has j, and nothing below it, begins with j
-pub begins_with : (xs : List ℕ) (j : ℕ) → IsStrictlyIncreasing xs → has xs j ≡ true → ((i : ℕ) → has xs i ≡ true → j ≤ i) → xs ≡ j ∷ drop 1 xs
+pub begins_with : (xs : List ℕ) (j : ℕ) → IsStrictlyIncreasing xs
+    → has xs j ≡ true → ((i : ℕ) → has xs i ≡ true → j ≤ i) → xs ≡ j ∷ drop 1 xs
 begins_with [] j rising there least = absurd cc
 begins_with (x ∷ xs) j rising there least =
     let low = least x (head_in x xs) in

@@ -1,12 +1,14 @@
 -- The row system: it is a system of a tree, in which the order of the numbers is a traversal.
-use Rattle.std.proofs.Common.{◌≡◌, ◌≢◌, ℕ, zero, suc, ◌+◌, ◌-◌, ◌<◌, ◌≤◌, Bool, true, not, ◌||◌, cond, eqb, List, [], ◌∷◌, ◌++◌, length, get_or, map, refl, sym, ap, ◌∙◌, subst, inl, inr, arith, Some, None}
+use Rattle.std.proofs.Common.{◌≡◌, ◌≢◌, ℕ, zero, suc, ◌+◌, ◌-◌, ◌<◌, ◌≤◌, Bool, true, not, ◌||◌, cond, eqb, List, []}
+use Rattle.std.proofs.Common.{◌∷◌, ◌++◌, length, get_or, map, refl, sym, ap, ◌∙◌, subst, inl, inr, arith, Some, None}
 use Rattle.std.specs.List.{All, sum_by, count_by, range_with_len}
 use Rattle.std.proofs.lemmas.List.{get_or_default, get_or-map, length-map, get_or_at, get_or_append_left}
 use Rattle.std.proofs.lemmas.List.Elements.{All-map, All-tail}
 use Rattle.std.proofs.lemmas.List.Sums.{sum_by-cons, sum_by-le, AllPass-from_list_all, list_all-from_AllPass}
 use Rattle.std.proofs.lemmas.List.Folds.{list_any_at}
 use Rattle.std.proofs.lemmas.List.FromFn.{length-range_with_len, get_or-range_with_len}
-use Rattle.std.proofs.lemmas.Bool.{cases_eq, eq-eqb, ne_eqb, or_left, or_right, or_cases, not_from_false, not-true, both_ways, cond-true, cond-false}
+use Rattle.std.proofs.lemmas.Bool.{cases_eq, eq-eqb, ne_eqb, or_left, or_right, or_cases, not_from_false}
+use Rattle.std.proofs.lemmas.Bool.{not-true, both_ways, cond-true, cond-false}
 use Rattle.limits.specs.Limits.{most_order}
 use Rattle.mp_system.specs.declared.system.Item.{Item}
 use Rattle.mp_system.specs.System.{IsTask, is_input}
@@ -42,7 +44,8 @@ module _ (assembly : AssemblyTree) (is : IsAssembly assembly) where
   pub supers_few : length assembly.supers ≤ most_order
   supers_few =
       let each : All (λ (x : Super). 1 ≤ x.columns) assembly.supers = λ k d lt.
-      (let some = (is.each (suc k) (omega arith, omega (arith, lt))).some in omega (arith, some, ap (λ (x : Super). x.columns) (super_here assembly.supers k d lt))) in
+      (let some = (is.each (suc k) (omega arith, omega (arith, lt))).some in
+      omega (arith, some, ap (λ (x : Super). x.columns) (super_here assembly.supers k d lt))) in
       omega (arith, count-le-sum assembly.supers each, is.total, is.few)
 
   within : (s : ℕ) → IsSuper assembly.supers s → IsNodeWithin (map row_node assembly.supers) (row_node (super_at assembly.supers s))
@@ -74,14 +77,16 @@ module _ (assembly : AssemblyTree) (is : IsAssembly assembly) where
     total = (
         let each : All (λ (x : Node). node_size x ≤ most_order) (map row_node assembly.supers) =
         All-map (λ (x : Node). node_size x ≤ most_order) row_node assembly.supers (λ k d lt.
-        (let fits = is.fits (suc k) (omega arith, omega (arith, lt)) in omega (arith, fits, is.few, ap front_of (super_here assembly.supers k d lt)))) in
+        (let fits = is.fits (suc k) (omega arith, omega (arith, lt)) in
+        omega (arith, fits, is.few, ap front_of (super_here assembly.supers k d lt)))) in
         omega (arith, sum_by-le node_size most_order (map row_node assembly.supers) each, supers_few, nodes_long)
         );
     roots = λ v node. rising_leads (map row_node assembly.supers) (λ w there some.
         let super : IsSuper assembly.supers w = (there.0, omega (arith, there.1, nodes_long)) in
         let up = ap (λ (x : Node). x.parent) (node_here w super) in
         let above = (is.each w super).parent (omega (arith, up, some)) in
-        (omega (arith, up, above.0), omega (arith, up, above.1, nodes_long))) (length (map row_node assembly.supers)) v node (omega (arith, node.0));
+        (omega (arith, up, above.0), omega (arith, up, above.1, nodes_long)))
+        (length (map row_node assembly.supers)) v node (omega (arith, node.0));
     shares = λ v node.
         let super : IsSuper assembly.supers v = (node.0, omega (arith, node.1, nodes_long)) in
         let none = ap (λ (x : Node). x.share) (node_here v super) in
@@ -102,7 +107,8 @@ count_once a (suc n) v low high =
     sum_by-cons (λ u. cond (eqb u v) 1 0) a (range_with_len (a + 1) n)
     ∙ elim (cases_eq a v) [
       | inl e ↦ (let here = eq-eqb a v e in rw here (let rest = count_below (a + 1) n v (omega arith) in omega (arith, rest)))
-      | inr ne ↦ (let here = ne_eqb a v ne in rw here (let rest = count_once (a + 1) n v (omega arith) (omega arith) in omega (arith, rest)))
+      | inr ne ↦
+          (let here = ne_eqb a v ne in rw here (let rest = count_once (a + 1) n v (omega arith) (omega arith) in omega (arith, rest)))
     ]
 
 -- an item that v consumes is that of a child of v

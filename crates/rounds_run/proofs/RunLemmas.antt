@@ -1,5 +1,6 @@
 -- Round after round.
-use Rattle.std.proofs.Common.{◌≡◌, ℕ, ◌+◌, ◌<◌, ◌≤◌, Bool, true, false, cond, ◌||◌, List, [], ◌∷◌, ◌++◌, length, get_or, set, take, refl, sym, ap, subst, ◌∙◌, arith}
+use Rattle.std.proofs.Common.{◌≡◌, ℕ, ◌+◌, ◌<◌, ◌≤◌, Bool, true, false, cond, ◌||◌, List, [], ◌∷◌}
+use Rattle.std.proofs.Common.{◌++◌, length, get_or, set, take, refl, sym, ap, subst, ◌∙◌, arith}
 use Rattle.std.specs.Prelude.{Result, IfOk, nat_eq}
 use Rattle.std.specs.List.{list_any, IsDistinct}
 use Rattle.std.specs.declared.alloc.AllocError.{AllocError}
@@ -35,16 +36,19 @@ round_next : (rounds : List (List ℕ)) (i : ℕ) (round : List ℕ) → i < len
 round_next rounds i round lt same t =
     ap (λ (z : List ℕ). in_rounds rounds i t || has z t) same ∙ sym (list_any_more (λ list. has list t) rounds i [] lt)
 
-pub held_next : (f : Factor) (rounds : List (List ℕ)) (i : ℕ) (round : List ℕ) (held : Held) → i < length rounds → round ≡ get_or rounds i []
+pub held_next : (f : Factor) (rounds : List (List ℕ)) (i : ℕ) (round : List ℕ) (held : Held)
+    → i < length rounds → round ≡ get_or rounds i []
     → IsHeld f (or_in (in_rounds rounds i) round) (or_in (in_rounds rounds i) round) held
     → IsHeld f (in_rounds rounds (i + 1)) (in_rounds rounds (i + 1)) held
 held_next f rounds i round held lt same is =
-    held_same f (or_in (in_rounds rounds i) round) (or_in (in_rounds rounds i) round) (in_rounds rounds (i + 1)) (in_rounds rounds (i + 1)) held
+    held_same f (or_in (in_rounds rounds i) round) (or_in (in_rounds rounds i) round)
+    (in_rounds rounds (i + 1)) (in_rounds rounds (i + 1)) held
     (round_next rounds i round lt same) (round_next rounds i round lt same) is
 
 -- at the end every front is made
 pub all_made : (f : Factor) (rounds : List (List ℕ)) (i : ℕ) (held : Held) → AreOrderly f.supers rounds → length rounds ≤ i
-    → IsHeld f (in_rounds rounds i) (in_rounds rounds i) held → (s : ℕ) → IsSuper f.supers s → list_of_front held.rows.items s ≡ front_rows f s
+    → IsHeld f (in_rounds rounds i) (in_rounds rounds i) held → (s : ℕ)
+    → IsSuper f.supers s → list_of_front held.rows.items s ≡ front_rows f s
 all_made f rounds i held is end held_is s super =
     held_is.kept s super (ap (λ z. list_any (λ list. has list s) z) (take_all i rounds end) ∙ is.all s super)
 

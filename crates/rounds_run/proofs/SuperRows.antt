@@ -1,5 +1,6 @@
 -- The rows of a supernode: of each of its columns, and what its children leave to it.
-use Rattle.std.proofs.Common.{◌≡◌, ◌↔◌, ℕ, zero, suc, ◌+◌, ◌-◌, ◌<◌, ◌≤◌, inl, inr, Bool, true, not, ◌&&◌, eqb, IsTrue, List, length, get_or, drop, refl, sym, ap, subst, ◌∙◌, arith}
+use Rattle.std.proofs.Common.{◌≡◌, ◌↔◌, ℕ, zero, suc, ◌+◌, ◌-◌, ◌<◌, ◌≤◌, inl, inr, Bool, true, not, ◌&&◌}
+use Rattle.std.proofs.Common.{eqb, IsTrue, List, length, get_or, drop, refl, sym, ap, subst, ◌∙◌, arith}
 use Rattle.std.proofs.lemmas.Bool.{cases_eq, cases_lt, ne_eqb, eqb-false, and_parts, and_from, not-true, not_from_false}
 use Rattle.std.proofs.lemmas.List.{drop-drop}
 use Rattle.std.proofs.lemmas.List.FromFn.{length-map-range_with_len}
@@ -93,7 +94,8 @@ module _ (joined : ℕ → ℕ → Bool) (n : ℕ) (laws : Laws joined n) (super
       let at : first_of supers s + suc k ≡ suc j = omega arith in
       let count : k + 1 ≡ suc k = omega arith in
       ap (rows_of_front joined n) at ∙ rows_next joined n laws j here next up fewer ∙ ap (drop 1) (rows_from s k super (omega (arith, le)))
-      ∙ drop-drop 1 k (rows_of_front joined n (first_of supers s)) ∙ ap (λ (i : ℕ). drop i (rows_of_front joined n (first_of supers s))) count
+      ∙ drop-drop 1 k (rows_of_front joined n (first_of supers s))
+      ∙ ap (λ (i : ℕ). drop i (rows_of_front joined n (first_of supers s))) count
 
   -- past its columns a list has the rows of the last column but that column
   rest_is : (s : ℕ) → IsSuper supers s
@@ -193,6 +195,10 @@ module _ (joined : ℕ → ℕ → Bool) (n : ℕ) (laws : Laws joined n) (super
           let c = own.0 in
           let at : structure_of joined (last_of supers c) i ≡ true = ap (λ (j : ℕ). structure_of joined j i) own.2 ∙ there in
           let other : not (eqb i (last_of supers c)) ≡ true = not_from_false _ (ne_eqb i _ (λ e. ne (e ∙ own.2))) in
-          let passes = and_from _ _ at other in
-          (c, own.1, own.3, ap (λ z. has z i) (rest_is c own.1) ∙ has_rest joined n laws (last_of supers c) i (last_vertex c own.1) ∙ passes),
+          let passes = and_from _ _ at other in (
+            c,
+            own.1,
+            own.3,
+            ap (λ z. has z i) (rest_is c own.1) ∙ has_rest joined n laws (last_of supers c) i (last_vertex c own.1) ∙ passes,
+          ),
     )

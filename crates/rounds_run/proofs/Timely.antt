@@ -1,9 +1,11 @@
 -- The schedule of tasks that take one unit of time each: what started when, along its events.
-use Rattle.std.proofs.Common.{◌≡◌, ◌≢◌, ◌⊎◌, ℕ, zero, suc, ◌+◌, ◌<◌, ◌≤◌, max, inl, inr, Bool, true, false, eqb, List, [], ◌∷◌, ◌++◌, length, take, map, refl, sym, ap, subst, ◌∙◌, arith}
+use Rattle.std.proofs.Common.{◌≡◌, ◌≢◌, ◌⊎◌, ℕ, zero, suc, ◌+◌, ◌<◌, ◌≤◌, max, inl, inr, Bool, true, false, eqb}
+use Rattle.std.proofs.Common.{List, [], ◌∷◌, ◌++◌, length, take, map, refl, sym, ap, subst, ◌∙◌, arith}
 use Rattle.std.specs.List.{All, filter, list_any, IsDistinct}
 use Rattle.std.specs.Cmp.{nat_eq_equiv}
 use Rattle.std.proofs.lemmas.Bool.{cases_eq, false_from_ne_true, eq-eqb, ne_eqb, eqb-true, both_ways, or_cases, or_left, or_right}
-use Rattle.std.proofs.lemmas.List.{get_or-set_same, get_or-set_other, length-set, length-replicate, append-nil, append_assoc, map-append, length_push}
+use Rattle.std.proofs.lemmas.List.{get_or-set_same, get_or-set_other, length-set, length-replicate}
+use Rattle.std.proofs.lemmas.List.{append-nil, append_assoc, map-append, length_push}
 use Rattle.std.proofs.lemmas.List.Elements.{filter-append, All-take}
 use Rattle.std.proofs.lemmas.Map.Keys.{IsDistinct-push}
 use Rattle.patterns.specs.Pattern.{has}
@@ -223,10 +225,15 @@ module _ (c : Setting) (supplies : ℕ → ℕ → Type 0) (unit : (t : ℕ) →
         ];
         soon = λ u is. elim (cases_eq u t) [
           | inl at ↦ absurd (running_not_done (sym is ∙ ap (phase_in (with_phase m.state.phases t Done)) at ∙ here))
-          | inr ne ↦ (let s = ok.soon u (sym (other u ne) ∙ is) in (s.0, s.1, omega (arith, s.2, later), ap (λ z. has z u) (same s.0) ∙ s.3))
+          | inr ne ↦
+              (let s = ok.soon u (sym (other u ne) ∙ is) in (s.0, s.1, omega (arith, s.2, later), ap (λ z. has z u) (same s.0) ∙ s.3))
         ];
         done = λ u is. elim (cases_eq u t) [
-          | inl at ↦ (own.0, omega (arith, own.1, due), ap (λ z. has (started_at own.0 (hist ++ e ∷ [])) z) at ∙ ap (λ z. has z t) (same own.0) ∙ own.3)
+          | inl at ↦ (
+            own.0,
+            omega (arith, own.1, due),
+            ap (λ z. has (started_at own.0 (hist ++ e ∷ [])) z) at ∙ ap (λ z. has z t) (same own.0) ∙ own.3,
+          )
           | inr ne ↦ (let s = ok.done u (sym (other u ne) ∙ is) in (s.0, omega (arith, s.1, later), ap (λ z. has z u) (same s.0) ∙ s.2))
         ];
         tasks = λ k u there. ok.tasks k u (ap (λ z. has z u) (sym (same k)) ∙ there);

@@ -11,8 +11,10 @@ use Rattle.segment_merge.proofs.Order.{moved_before, merged_append, merged_one, 
 use Rattle.segment_merge.proofs.Kept.{each_kept, all_kept, each_append, ropes_front, net_append}
 
 -- `rest` is left of sides0
-pub record Taking (ropes0 ropes : List (List ℕ)) (sides0 : List (List Seg)) (into0 : List Seg) (rest : List (List Seg)) (into : List Seg) : Type 0 where
-  pub told : insert_runs (merge_runs (all_runs_of ropes rest)) (runs_of ropes into) ≡ insert_runs (merge_runs (all_runs_of ropes0 sides0)) (runs_of ropes0 into0)
+pub record Taking (ropes0 ropes : List (List ℕ)) (sides0 : List (List Seg))
+    (into0 : List Seg) (rest : List (List Seg)) (into : List Seg) : Type 0 where
+  pub told : insert_runs (merge_runs (all_runs_of ropes rest)) (runs_of ropes into)
+      ≡ insert_runs (merge_runs (all_runs_of ropes0 sides0)) (runs_of ropes0 into0)
   pub rest_ropes : AllHaveRopes ropes rest
   pub into_ropes : HaveRopes ropes into
   pub kept : Extends ropes0 ropes
@@ -20,9 +22,11 @@ pub record Taking (ropes0 ropes : List (List ℕ)) (sides0 : List (List Seg)) (i
   pub within : net_sum_all rest + net_sum (profile into) ≤ most_total
 
 module _ (laws : RunLaws) where
-  module _ (ropes0 ropes : List (List ℕ)) (sides0 : List (List Seg)) (into0 : List Seg) (rest front : List (List Seg)) (side into : List Seg)
+  module _ (ropes0 ropes : List (List ℕ)) (sides0 : List (List Seg))
+      (into0 : List Seg) (rest front : List (List Seg)) (side into : List Seg)
       (t : Taking ropes0 ropes sides0 into0 rest into) (last : rest ≡ front ++ side ∷ []) where
-    pub taking_on : (ropes' : List (List ℕ)) (into' : List Seg) → Extends ropes ropes' → HaveRopes ropes' into' → IsRising (profile side) → runs_of ropes' into' ≡ move_runs true (runs_of ropes side) (runs_of ropes into)
+    pub taking_on : (ropes' : List (List ℕ)) (into' : List Seg) → Extends ropes ropes' → HaveRopes ropes' into'
+        → IsRising (profile side) → runs_of ropes' into' ≡ move_runs true (runs_of ropes side) (runs_of ropes into)
         → net_sum (profile into') ≡ net_sum (profile side) + net_sum (profile into) → Taking ropes0 ropes' sides0 into0 front into'
     taking_on ropes' into' kept ropes_in rising put net =
         let r = rw last at t.rest_ropes in
@@ -30,7 +34,8 @@ module _ (laws : RunLaws) where
         let w = rw last at t.within in
         let f = ropes_front ropes front (side ∷ []) r in
         let hs : IsRising (run_profile (runs_of ropes side)) = rw (laws.profile ropes side) rising in
-        let one : runs_of ropes' into' ≡ insert_runs (runs_of ropes side) (runs_of ropes into) = put ∙ moved_before (runs_of ropes side) (runs_of ropes into) hs in
+        let one : runs_of ropes' into' ≡ insert_runs (runs_of ropes side) (runs_of ropes into) =
+        put ∙ moved_before (runs_of ropes side) (runs_of ropes into) hs in
         let split : merge_runs (all_runs_of ropes rest) ≡ insert_runs (merge_runs (all_runs_of ropes front)) (runs_of ropes side) =
         ap (λ (l : List (List Seg)). merge_runs (all_runs_of ropes l)) last
         ∙ ap merge_runs (each_append ropes front (side ∷ []))

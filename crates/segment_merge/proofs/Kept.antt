@@ -9,7 +9,8 @@ use Rattle.segment_merge.specs.Merging.{all_runs_of, AllHaveRopes, net_sum_all, 
 use Rattle.hill_valley.specs.Laws.{RunLaws}
 
 module _ (laws : RunLaws) where
-  pub each_kept : (old new : List (List ℕ)) (sides : List (List Seg)) → AllHaveRopes old sides → Extends old new → all_runs_of new sides ≡ all_runs_of old sides
+  pub each_kept : (old new : List (List ℕ)) (sides : List (List Seg))
+      → AllHaveRopes old sides → Extends old new → all_runs_of new sides ≡ all_runs_of old sides
   each_kept old new [] h k = refl
   each_kept old new (side ∷ sides) h k = rw ((laws.stay old new side h.0 k).1, each_kept old new sides h.1 k) refl
 
@@ -29,7 +30,8 @@ pub ropes_last : (lists : List (List ℕ)) (a b : List (List Seg)) → AllHaveRo
 ropes_last lists [] b h = h
 ropes_last lists (side ∷ a) b h = ropes_last lists a b h.1
 
-pub ropes_append : (lists : List (List ℕ)) (a b : List (List Seg)) → AllHaveRopes lists a → AllHaveRopes lists b → AllHaveRopes lists (a ++ b)
+pub ropes_append : (lists : List (List ℕ)) (a b : List (List Seg))
+    → AllHaveRopes lists a → AllHaveRopes lists b → AllHaveRopes lists (a ++ b)
 ropes_append lists [] b ha hb = hb
 ropes_append lists (side ∷ a) b ha hb = (ha.0, ropes_append lists a b ha.1 hb)
 

@@ -28,7 +28,8 @@ pub record Seeking (sides : List (List Seg)) (i place most : ℕ) : Type 0 where
   pub within : place ≤ length sides - 1
   pub seen : AllSides (take i sides)
 
-module _ (sides : List (List Seg)) (i place most : ℕ) (side : List Seg) (s : Seeking sides i place most) (lt : i < length sides) (here : side ≡ get_or sides i []) (good : IsSide (profile side)) where
+module _ (sides : List (List Seg)) (i place most : ℕ) (side : List Seg) (s : Seeking sides i place most)
+    (lt : i < length sides) (here : side ≡ get_or sides i []) (good : IsSide (profile side)) where
   more : take (i + 1) sides ≡ take i sides ++ get_or sides i [] ∷ []
   more = grind (arith, common_steps)
 

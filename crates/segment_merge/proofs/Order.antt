@@ -1,5 +1,6 @@
 -- Whichever side the others are move_runs into, the merge_segments side is the same.
-use Rattle.std.proofs.Common.{◌≡◌, ◌≢◌, ℕ, ◌+◌, ◌<◌, List, [], ◌∷◌, ◌++◌, refl, ap, sym, ◌∙◌, arith, subst, Bool, true, false, append_assoc, inl, inr}
+use Rattle.std.proofs.Common.{◌≡◌, ◌≢◌, ℕ, ◌+◌, ◌<◌, List, [], ◌∷◌, ◌++◌, refl, ap, sym, ◌∙◌}
+use Rattle.std.proofs.Common.{arith, subst, Bool, true, false, append_assoc, inl, inr}
 use Rattle.side_laws.specs.Segments.{IsRising, StartsAbove}
 use Rattle.hill_valley.specs.Side.{Run, run_profile, join_runs, insert_run}
 use Rattle.segment_merge.specs.Merging.{insert_runs, merge_runs, move_runs}
@@ -18,7 +19,8 @@ same_run u v m n ts us es p q r = rw (p, q, r) refl
 apart_nil : (s t : Run) → s.up ≢ t.up → insert_run true s (t ∷ []) ≡ insert_run true t (s ∷ [])
 apart_nil s t h = grind (arith, nat_tests)
 
-apart_step : (s t e : Run) (es : List Run) → s.up ≢ t.up → insert_run true s (insert_run true t es) ≡ insert_run true t (insert_run true s es)
+apart_step : (s t e : Run) (es : List Run) → s.up ≢ t.up
+    → insert_run true s (insert_run true t es) ≡ insert_run true t (insert_run true s es)
     → insert_run true s (insert_run true t (e ∷ es)) ≡ insert_run true t (insert_run true s (e ∷ es))
 apart_step s t e es h ih = grind (arith, nat_tests)
 
@@ -39,8 +41,10 @@ both_nil s t h =
 both_step : (s t e : Run) (es : List Run) → s.up ≡ t.up → insert_run true s (insert_run true t es) ≡ insert_run true (both s t) es
     → insert_run true s (insert_run true t (e ∷ es)) ≡ insert_run true (both s t) (e ∷ es)
 both_step s t e es h ih =
-    let a = same_run t.up s.up (t.net + s.net) (s.net + t.net) (s.tasks ++ t.tasks) (s.tasks ++ t.tasks) (e ∷ es) (sym h) (omega arith) refl in
-    let b = same_run e.up e.up (e.net + t.net + s.net) (e.net + (s.net + t.net)) (s.tasks ++ (t.tasks ++ e.tasks)) ((s.tasks ++ t.tasks) ++ e.tasks) es refl (omega arith) (sym (append_assoc s.tasks t.tasks e.tasks)) in
+    let a =
+    same_run t.up s.up (t.net + s.net) (s.net + t.net) (s.tasks ++ t.tasks) (s.tasks ++ t.tasks) (e ∷ es) (sym h) (omega arith) refl in
+    let b = same_run e.up e.up (e.net + t.net + s.net) (e.net + (s.net + t.net)) (s.tasks ++ (t.tasks ++ e.tasks))
+    ((s.tasks ++ t.tasks) ++ e.tasks) es refl (omega arith) (sym (append_assoc s.tasks t.tasks e.tasks)) in
     grind (arith, nat_tests, a, b)
 
 pub as_one : (s t : Run) (es : List Run) → s.up ≡ t.up → insert_run true s (insert_run true t es) ≡ insert_run true (both s t) es
@@ -74,12 +78,14 @@ moved_before [] es r = refl
 moved_before (s ∷ ss) es r = moved_before ss (insert_run true s es) r.1 ∙ past_all s ss es (none_after s.up ss r.0 r.1)
 
 -- what goes in in front of a side goes in in front of the whole
-put_step : (s m : Run) (ms es : List Run) → insert_runs (insert_run true s ms) es ≡ insert_run true s (insert_runs ms es) → insert_runs (insert_run true s (m ∷ ms)) es ≡ insert_run true s (insert_runs (m ∷ ms) es)
+put_step : (s m : Run) (ms es : List Run) → insert_runs (insert_run true s ms) es ≡ insert_run true s (insert_runs ms es)
+    → insert_runs (insert_run true s (m ∷ ms)) es ≡ insert_run true s (insert_runs (m ∷ ms) es)
 put_step s m ms es ih =
     let a = as_one s m (insert_runs ms es) in
     let b = apart s m (insert_runs ms es) in
     let c = ap (insert_run true m) ih in
-    let d = λ (h : s.up ≡ m.up). ap (λ (l : List Run). insert_runs l es) (same_run s.up m.up (s.net + m.net) (m.net + s.net) (s.tasks ++ m.tasks) (s.tasks ++ m.tasks) ms h (omega arith) refl) in
+    let d = λ (h : s.up ≡ m.up). ap (λ (l : List Run). insert_runs l es)
+    (same_run s.up m.up (s.net + m.net) (m.net + s.net) (s.tasks ++ m.tasks) (s.tasks ++ m.tasks) ms h (omega arith) refl) in
     grind (arith, nat_tests, a, b, c, d)
 
 pub put_inserted : (s : Run) (ms es : List Run) → insert_runs (insert_run true s ms) es ≡ insert_run true s (insert_runs ms es)
@@ -103,7 +109,8 @@ pub further : (b : Bool) (s m : Run) (ms : List Run) → m.up < s.up → insert_
 further b s m ms h = grind (arith, nat_tests)
 
 -- a run behind a side goes in in front of the rest
-pub behind : (s : Run) (ms es : List Run) → IsRising (run_profile ms) → insert_runs (insert_run false s ms) es ≡ insert_runs ms (insert_run true s es)
+pub behind : (s : Run) (ms es : List Run) → IsRising (run_profile ms)
+    → insert_runs (insert_run false s ms) es ≡ insert_runs ms (insert_run true s es)
 behind s [] es r = refl
 behind s (m ∷ ms) es r = elim (compare s.up m.up) [
   | inl h ↦
@@ -114,7 +121,8 @@ behind s (m ∷ ms) es r = elim (compare s.up m.up) [
     | inl h ↦
         ap (λ (l : List Run). insert_runs l es) (in_place s m ms h)
         ∙ sym (as_one m s (insert_runs ms es) (sym h))
-        ∙ ap (insert_run true m) (sym (past_all s ms es (none_after s.up ms (subst (λ (u : ℕ). StartsAbove u (run_profile ms)) (sym h) r.0) r.1)))
+        ∙ ap (insert_run true m)
+        (sym (past_all s ms es (none_after s.up ms (subst (λ (u : ℕ). StartsAbove u (run_profile ms)) (sym h) r.0) r.1)))
     | inr h ↦ ap (λ (l : List Run). insert_runs l es) (further false s m ms h) ∙ ap (insert_run true m) (behind s ms es r.1)
   ]
 ]
@@ -129,7 +137,8 @@ front_cons s [] r = refl
 front_cons s (t ∷ ss) r = in_front true s t ss r.0
 
 -- move_runs in behind, it is as if the side had been put in in front of it
-pub moved_behind : RunLaws → (ss es : List Run) → IsRising (run_profile ss) → IsRising (run_profile es) → move_runs false ss es ≡ insert_runs es ss
+pub moved_behind : RunLaws → (ss es : List Run) → IsRising (run_profile ss)
+    → IsRising (run_profile es) → move_runs false ss es ≡ insert_runs es ss
 moved_behind laws [] es r re = sym (put_nil es re)
 moved_behind laws (s ∷ ss) es r re =
     moved_behind laws ss (insert_run false s es) r.1 (rising_put laws s es re) ∙ behind s es ss re ∙ ap (insert_runs es) (front_cons s ss r)

@@ -25,4 +25,9 @@ module _ (laws : RunLaws) where
 -- the `net` values of the merged side
 pub net_merge : NetOfInserts → (sides : List (List Seg)) → net_sum (merge_segments (profiles sides)) ≡ net_sum_all sides
 net_merge net [] = refl
-net_merge net (side ∷ sides) = omega (arith, net (profile side) (merge_segments (profiles sides)), net_merge net sides, sum_by-cons (λ (s : List Seg). net_sum (profile s)) side sides)
+net_merge net (side ∷ sides) = omega (
+  arith,
+  net (profile side) (merge_segments (profiles sides)),
+  net_merge net sides,
+  sum_by-cons (λ (s : List Seg). net_sum (profile s)) side sides,
+)

@@ -1,4 +1,5 @@
-use Rattle.std.proofs.Common.{◌≡◌, ℕ, zero, suc, ◌+◌, ◌-◌, ◌*◌, ◌^◌, ◌<◌, ◌≤◌, min, List, [], ◌∷◌, ◌⊎◌, ap, sym, ◌∙◌, arith, subst, inl, inr}
+use Rattle.std.proofs.Common.{◌≡◌, ℕ, zero, suc, ◌+◌, ◌-◌, ◌*◌, ◌^◌, ◌<◌, ◌≤◌, min, List}
+use Rattle.std.proofs.Common.{[], ◌∷◌, ◌⊎◌, ap, sym, ◌∙◌, arith, subst, inl, inr}
 use Rattle.std.specs.List.{AllByRecursion, sum_by}
 use Rattle.std.proofs.lemmas.List.Sums.{sum_by-cons}
 use Rattle.side_laws.specs.Counting.{Counted, greatest_of, IsCounted}
@@ -32,7 +33,8 @@ le_total m n = grind arith
 pub grown : (x y a b m : ℕ) → 2 ^ x ≤ a ^ a → 2 ^ y ≤ b ^ b → m ≤ a → m ≤ b → 2 ^ (x + y + m) ≤ (a + b) ^ (a + b)
 grown x y a b m hx hy ha hb = elim (le_total b a) [
   | inl h ↦ half x y a b m h hx hy hb
-  | inr h ↦ at_base (x + y + m) (b + a) (a + b) (omega arith) (at_pow (y + x + m) (x + y + m) (b + a) (omega arith) (half y x b a m h hy hx ha))
+  | inr h ↦
+      at_base (x + y + m) (b + a) (a + b) (omega arith) (at_pow (y + x + m) (x + y + m) (b + a) (omega arith) (half y x b a m h hy hx ha))
 ]
 
 grown_together : (m n a b : ℕ) → 2 ^ m ≤ a ^ a → 2 ^ n ≤ b ^ b → 2 ^ (m + n) ≤ (a + b) ^ (a + b)
@@ -48,7 +50,8 @@ none_moved (suc b) =
 
 -- more tasks allow as many moves
 pub grown_more : (m a b : ℕ) → 2 ^ m ≤ a ^ a → a ≤ b → 2 ^ m ≤ b ^ b
-grown_more m a b h le = at_base m (a + (b - a)) b (omega arith) (at_pow (m + 0) m (a + (b - a)) (omega arith) (grown_together m 0 a (b - a) h (none_moved (b - a))))
+grown_more m a b h le = at_base m (a + (b - a)) b (omega arith)
+    (at_pow (m + 0) m (a + (b - a)) (omega arith) (grown_together m 0 a (b - a) h (none_moved (b - a))))
 
 greatest_le : (f : Counted → ℕ) (ps : List Counted) → greatest_of f ps ≤ sum_by f ps
 greatest_le f [] = omega arith
@@ -59,11 +62,17 @@ sides_le [] h = omega arith
 sides_le (p ∷ ps) h =
     let ih = sides_le ps h.1 in
     let q = h.0.1 in
-    omega (arith, sum_by-cons (λ (c : Counted). c.front) p ps, sum_by-cons (λ (c : Counted). c.back) p ps, sum_by-cons (λ (c : Counted). c.tasks) p ps)
+    omega (
+      arith,
+      sum_by-cons (λ (c : Counted). c.front) p ps,
+      sum_by-cons (λ (c : Counted). c.back) p ps,
+      sum_by-cons (λ (c : Counted). c.tasks) p ps,
+    )
 
 -- what merging all but the greatest fronts and backs costs keeps the law
 pub par_count : (ps : List Counted) → AllByRecursion IsCounted ps → (m : ℕ)
-    → m ≤ sum_by (λ p. p.moves) ps + (sum_by (λ p. p.front) ps - greatest_of (λ p. p.front) ps) + (sum_by (λ p. p.back) ps - greatest_of (λ p. p.back) ps)
+    → m ≤ sum_by (λ p. p.moves) ps + (sum_by (λ p. p.front) ps - greatest_of (λ p. p.front) ps)
+    + (sum_by (λ p. p.back) ps - greatest_of (λ p. p.back) ps)
     → 2 ^ m ≤ sum_by (λ p. p.tasks) ps ^ sum_by (λ p. p.tasks) ps
 par_count [] h m le = let z : m ≡ 0 = omega arith in subst (λ (k : ℕ). 2 ^ k ≤ 0 ^ 0) (sym z) (omega arith)
 par_count (p ∷ ps) h m le =
@@ -81,7 +90,8 @@ par_count (p ∷ ps) h m le =
     let ef = sum_by-cons (λ (c : Counted). c.front) p ps in
     let eb = sum_by-cons (λ (c : Counted). c.back) p ps in
     let ih = par_count ps h.1 rest (omega arith) in
-    let all : 2 ^ (p.moves + rest + here) ≤ (p.tasks + ss) ^ (p.tasks + ss) = grown p.moves rest p.tasks ss here h.0.0 ih (omega arith) (omega arith) in
+    let all : 2 ^ (p.moves + rest + here) ≤ (p.tasks + ss) ^ (p.tasks + ss) =
+    grown p.moves rest p.tasks ss here h.0.0 ih (omega arith) (omega arith) in
     let more : 2 ^ m ≤ 2 ^ (p.moves + rest + here) = pow-le-pow_right {n = 2} (omega arith) (omega arith) in
     at_base m (p.tasks + ss) (sum_by (λ (c : Counted). c.tasks) (p ∷ ps)) (sym (sum_by-cons (λ (c : Counted). c.tasks) p ps)) (omega arith)
 

@@ -1,4 +1,5 @@
-use Rattle.std.proofs.Common.{◌≡◌, ℕ, ◌+◌, ◌-◌, ◌<◌, ◌≤◌, max, min, Bool, true, false, cond, ltb, leb, List, [], ◌∷◌, ap, ◌∙◌, arith, inl, inr}
+use Rattle.std.proofs.Common.{◌≡◌, ℕ, ◌+◌, ◌-◌, ◌<◌, ◌≤◌, max, min, Bool, true, false}
+use Rattle.std.proofs.Common.{cond, ltb, leb, List, [], ◌∷◌, ap, ◌∙◌, arith, inl, inr}
 use Rattle.std.proofs.lemmas.Bool.Decides.{nat_tests}
 use Rattle.side_laws.specs.Segments.{Segment, net_sum, lowest, top, StartsAbove, IsRising}
 use Rattle.side_laws.specs.Appending.{append_segment, append_segments, cross_hill}
@@ -13,18 +14,21 @@ all_step : (limit t x e y : ℕ) (s : Segment) (ss : List Segment) (t' y' z : �
     → z ≡ cond (ltb t limit) (lowest limit e (s ∷ ss)) y
 all_step limit t x e y s ss t' y' z ends ht hy hz = grind (arith, nat_tests)
 
-all_nil : (limit level : ℕ) (near : List Segment) → (top level near < limit → lowest limit level near ≡ level - net_sum near) → lowest limit level near ≡ cond (ltb (top level near) limit) (level - net_sum near) (lowest limit level near)
+all_nil : (limit level : ℕ) (near : List Segment) → (top level near < limit → lowest limit level near ≡ level - net_sum near)
+    → lowest limit level near ≡ cond (ltb (top level near) limit) (level - net_sum near) (lowest limit level near)
 all_nil limit level near h = grind (arith, nat_tests)
 
 pub lowest_all : (limit level : ℕ) (ss near : List Segment) → net_sum near + net_sum ss ≤ level
-    → lowest limit level (append_segments ss near) ≡ cond (ltb (top level near) limit) (lowest limit (level - net_sum near) ss) (lowest limit level near)
+    → lowest limit level (append_segments ss near)
+    ≡ cond (ltb (top level near) limit) (lowest limit (level - net_sum near) ss) (lowest limit level near)
 lowest_all limit level [] near room = all_nil limit level near (λ h. lowest_end limit level near h (omega arith))
 lowest_all limit level (s ∷ ss) near room =
     let near' = append_segment s.up s.net near in
     let tot = total_appended s.up s.net near in
     let ih = lowest_all limit level ss near' (omega arith) in
     let at : level - net_sum near' ≡ level - net_sum near - s.net = omega arith in
-    all_step limit (top level near) 0 (level - net_sum near) (lowest limit level near) s ss (top level near') (lowest limit level near') (lowest limit level (append_segments ss near'))
+    all_step limit (top level near) 0 (level - net_sum near) (lowest limit level near) s ss
+    (top level near') (lowest limit level near') (lowest limit level (append_segments ss near'))
     (λ h. lowest_end limit level near h (omega arith))
     (top_appended level s.up s.net near (omega arith))
     (lowest_appended limit level s.up s.net near (omega arith))
@@ -33,7 +37,8 @@ lowest_all limit level (s ∷ ss) near room =
 pub end_le_top : (level : ℕ) (ss : List Segment) → level - net_sum ss ≤ top level ss
 end_le_top level ss = omega (arith, level_le_top level ss)
 
-pub top_all : (level : ℕ) (ss near : List Segment) → net_sum near + net_sum ss ≤ level → top level (append_segments ss near) ≡ max (top level near) (top (level - net_sum near) ss)
+pub top_all : (level : ℕ) (ss near : List Segment) → net_sum near + net_sum ss ≤ level
+    → top level (append_segments ss near) ≡ max (top level near) (top (level - net_sum near) ss)
 top_all level [] near room = omega (arith, end_le_top level near)
 top_all level (s ∷ ss) near room =
     let near' = append_segment s.up s.net near in
@@ -62,30 +67,39 @@ through_on : (limit t end peak level y z : ℕ) (s : Segment) (ss : List Segment
     → z ≡ cond (ltb (max t peak) limit) (min end (lowest limit level (s ∷ ss))) y
 through_on limit t end peak level y z s ss above ends hz = grind (arith, nat_tests)
 
-stop_is : (end peak level : ℕ) (s : Segment) (ss near : List Segment) → level ≤ end → cross_hill end peak level (s ∷ ss) near ≡ append_segments (s ∷ ss) (append_segment (peak - end) (end - level) near)
+stop_is : (end peak level : ℕ) (s : Segment) (ss near : List Segment) → level ≤ end
+    → cross_hill end peak level (s ∷ ss) near ≡ append_segments (s ∷ ss) (append_segment (peak - end) (end - level) near)
 stop_is end peak level s ss near h = grind (arith, nat_tests)
 
-on_is : (end peak level : ℕ) (s : Segment) (ss near : List Segment) → end < level → cross_hill end peak level (s ∷ ss) near ≡ cross_hill end (max peak (level + s.up)) (level - s.net) ss near
+on_is : (end peak level : ℕ) (s : Segment) (ss near : List Segment) → end < level
+    → cross_hill end peak level (s ∷ ss) near ≡ cross_hill end (max peak (level + s.up)) (level - s.net) ss near
 on_is end peak level s ss near h = grind (arith, nat_tests)
 
-pub lowest_through : (limit start peak level : ℕ) (far near : List Segment) → net_sum near ≤ start → start - net_sum near ≤ peak → level ≤ start - net_sum near + net_sum far → net_sum far ≤ level
-    → lowest limit start (cross_hill (start - net_sum near) peak level far near) ≡ cond (ltb (max (top start near) peak) limit) (min (start - net_sum near) (lowest limit level far)) (lowest limit start near)
+pub lowest_through : (limit start peak level : ℕ) (far near : List Segment) → net_sum near ≤ start
+    → start - net_sum near ≤ peak → level ≤ start - net_sum near + net_sum far → net_sum far ≤ level
+    → lowest limit start (cross_hill (start - net_sum near) peak level far near)
+    ≡ cond (ltb (max (top start near) peak) limit) (min (start - net_sum near) (lowest limit level far)) (lowest limit start near)
 lowest_through limit start peak level [] near room rises falls room' =
     let end = start - net_sum near in
-    through_end limit (top start near) end peak level (lowest limit start near) (lowest limit start (cross_hill end peak level [] near)) rises (omega arith)
+    through_end limit (top start near) end peak level (lowest limit start near)
+    (lowest limit start (cross_hill end peak level [] near)) rises (omega arith)
     (λ h. lowest_end limit start near h room)
     (lowest_appended limit start (peak - end) (end - level) near (omega arith))
 lowest_through limit start peak level (s ∷ ss) near room rises falls room' =
     let end = start - net_sum near in
     elim (lt_or_le end level) [
-      | inl above ↦ through_on limit (top start near) end peak level (lowest limit start near) (lowest limit start (cross_hill end peak level (s ∷ ss) near)) s ss above
+      | inl above ↦ through_on limit (top start near) end peak level (lowest limit start near)
+          (lowest limit start (cross_hill end peak level (s ∷ ss) near)) s ss above
           (λ h. lowest_end limit start near h room)
-          (ap (lowest limit start) (on_is end peak level s ss near above) ∙ lowest_through limit start (max peak (level + s.up)) (level - s.net) ss near room (omega arith) (omega arith) (omega arith))
+          (ap (lowest limit start) (on_is end peak level s ss near above)
+          ∙ lowest_through limit start (max peak (level + s.up))
+          (level - s.net) ss near room (omega arith) (omega arith) (omega arith))
       | inr below ↦
           let near1 = append_segment (peak - end) (end - level) near in
           let tot = total_appended (peak - end) (end - level) near in
           let at : start - net_sum near1 ≡ level = omega arith in
-          through_stop limit (top start near) end peak level (lowest limit start near) (top start near1) (lowest limit start near1) (lowest limit start (cross_hill end peak level (s ∷ ss) near)) s ss rises below
+          through_stop limit (top start near) end peak level (lowest limit start near) (top start near1)
+          (lowest limit start near1) (lowest limit start (cross_hill end peak level (s ∷ ss) near)) s ss rises below
           (λ h. lowest_end limit start near h room)
           (top_appended start (peak - end) (end - level) near (omega arith))
           (lowest_appended limit start (peak - end) (end - level) near (omega arith))
@@ -94,7 +108,8 @@ lowest_through limit start peak level (s ∷ ss) near room rises falls room' =
           ∙ ap (λ n. cond (ltb (top start near1) limit) (lowest limit n (s ∷ ss)) (lowest limit start near1)) at)
     ]
 
-pub top_through : (start peak level : ℕ) (far near : List Segment) → net_sum near ≤ start → start - net_sum near ≤ peak → level ≤ peak → level ≤ start - net_sum near + net_sum far → net_sum far ≤ level
+pub top_through : (start peak level : ℕ) (far near : List Segment) → net_sum near ≤ start
+    → start - net_sum near ≤ peak → level ≤ peak → level ≤ start - net_sum near + net_sum far → net_sum far ≤ level
     → top start (cross_hill (start - net_sum near) peak level far near) ≡ max (top start near) (max peak (top level far))
 top_through start peak level [] near room rises low falls room' =
     let end = start - net_sum near in
@@ -104,7 +119,8 @@ top_through start peak level (s ∷ ss) near room rises low falls room' =
     let end = start - net_sum near in
     elim (lt_or_le end level) [
       | inl above ↦
-          let ih = top_through start (max peak (level + s.up)) (level - s.net) ss near room (omega arith) (omega arith) (omega arith) (omega arith) in
+          let ih = top_through start (max peak (level + s.up)) (level - s.net) ss near room
+          (omega arith) (omega arith) (omega arith) (omega arith) in
           let e = ap (top start) (on_is end peak level s ss near above) in
           omega (arith, ih, e)
       | inr below ↦
@@ -146,7 +162,8 @@ pick false x y p q = q
 pub rising_crossing : (end hill level : ℕ) (far near : List Segment) → IsRising near → IsRising (cross_hill end hill level far near)
 rising_crossing end hill level [] near r = rising_appended (hill - end) (end - level) near r
 rising_crossing end hill level (s ∷ far) near r =
-    pick (leb level end) (append_segments (s ∷ far) (append_segment (hill - end) (end - level) near)) (cross_hill end (max hill (level + s.up)) (level - s.net) far near)
+    pick (leb level end) (append_segments (s ∷ far) (append_segment (hill - end) (end - level) near))
+    (cross_hill end (max hill (level + s.up)) (level - s.net) far near)
     (rising_all (s ∷ far) (append_segment (hill - end) (end - level) near) (rising_appended (hill - end) (end - level) near r))
     (rising_crossing end (max hill (level + s.up)) (level - s.net) far near r)
 
@@ -154,9 +171,19 @@ net_all : (far near : List Segment) → net_sum (append_segments far near) ≡ n
 net_all [] near = omega arith
 net_all (s ∷ far) near = omega (arith, net_all far (append_segment s.up s.net near), total_appended s.up s.net near)
 
-pub net_crossing : (end hill level : ℕ) (far near : List Segment) → level ≤ end + net_sum far → net_sum far ≤ level → net_sum (cross_hill end hill level far near) + level ≡ net_sum near + (end + net_sum far)
+pub net_crossing : (end hill level : ℕ) (far near : List Segment) → level ≤ end + net_sum far
+    → net_sum far ≤ level → net_sum (cross_hill end hill level far near) + level ≡ net_sum near + (end + net_sum far)
 net_crossing end hill level [] near h k = omega (arith, total_appended (hill - end) (end - level) near)
 net_crossing end hill level (s ∷ far) near h k = elim (lt_or_le end level) [
-  | inl m ↦ omega (arith, ap net_sum (on_is end hill level s far near m), net_crossing end (max hill (level + s.up)) (level - s.net) far near (omega arith) (omega arith))
-  | inr m ↦ omega (arith, ap net_sum (stop_is end hill level s far near m), net_all (s ∷ far) (append_segment (hill - end) (end - level) near), total_appended (hill - end) (end - level) near)
+  | inl m ↦ omega (
+    arith,
+    ap net_sum (on_is end hill level s far near m),
+    net_crossing end (max hill (level + s.up)) (level - s.net) far near (omega arith) (omega arith),
+  )
+  | inr m ↦ omega (
+    arith,
+    ap net_sum (stop_is end hill level s far near m),
+    net_all (s ∷ far) (append_segment (hill - end) (end - level) near),
+    total_appended (hill - end) (end - level) near,
+  )
 ]

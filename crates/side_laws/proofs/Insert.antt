@@ -19,4 +19,5 @@ pub lowest_inserted : (limit level : ℕ) (s : Segment) (es : List Segment) → 
     → lowest limit level (insert_segment s es) ≡ lowest limit (level - s.net) es
 lowest_inserted limit level s [] pass room = grind (arith, nat_tests)
 lowest_inserted limit level s (e ∷ es) pass room =
-    lowest_step limit level s e es pass (omega arith) (omega arith) (λ lt. lowest_inserted limit (level - e.net) s es (omega arith) (omega arith))
+    lowest_step limit level s e es pass (omega arith) (omega arith)
+    (λ lt. lowest_inserted limit (level - e.net) s es (omega arith) (omega arith))

@@ -26,7 +26,8 @@ front_inserted : (t : Segment) (es : List Segment) → IsRising (t ∷ es) → i
 front_inserted t [] r = refl
 front_inserted t (e ∷ es) r = front_inserted_step t e es r.0
 
-lowest_go : (limit level : ℕ) (s : Segment) (ss : List Segment) → level + s.up < limit → lowest limit level (s ∷ ss) ≡ lowest limit (level - s.net) ss
+lowest_go : (limit level : ℕ) (s : Segment) (ss : List Segment)
+    → level + s.up < limit → lowest limit level (s ∷ ss) ≡ lowest limit (level - s.net) ss
 lowest_go limit level s ss h = grind (arith, nat_tests)
 
 lowest_stay : (limit level : ℕ) (s : Segment) (ss : List Segment) → limit ≤ level + s.up → lowest limit level (s ∷ ss) ≡ level
@@ -37,7 +38,8 @@ total_all [] b = omega arith
 total_all (s ∷ a) b = omega (arith, total_inserted s (insert_segments a b), total_all a b)
 
 -- the first side goes on
-go_a : (limit start_a start_b : ℕ) (s : Segment) (a b : List Segment) → start_a + start_b + s.up < limit → net_sum (s ∷ a) ≤ start_a → net_sum b ≤ start_b
+go_a : (limit start_a start_b : ℕ) (s : Segment) (a b : List Segment)
+    → start_a + start_b + s.up < limit → net_sum (s ∷ a) ≤ start_a → net_sum b ≤ start_b
     → TwoStuck limit (start_a - s.net) start_b a b → TwoStuck limit start_a start_b (s ∷ a) b
 go_a limit start_a start_b s a b go room_a room_b r =
     let t = total_all a b in
@@ -49,31 +51,37 @@ go_a limit start_a start_b s a b go room_a room_b r =
       y = r.y;
       low_a = let h = r.low_a in omega arith;
       low_b = r.low_b;
-      both = lowest_inserted limit (start_a + start_b) s (insert_segments a b) go room ∙ ap (λ n. lowest limit n (insert_segments a b)) e ∙ r.both;
+      both = lowest_inserted limit (start_a + start_b) s (insert_segments a b) go room
+          ∙ ap (λ n. lowest limit n (insert_segments a b)) e ∙ r.both;
       alone_a = lowest_go (limit - r.y) start_a s a first ∙ r.alone_a;
       alone_b = r.alone_b;
-      pass = λ pa pb. inserted_passes limit (start_a + start_b) s (insert_segments a b) go room (subst (λ (n : ℕ). Passes limit n (insert_segments a b)) (sym e) (r.pass pa.1 pb));
+      pass = λ pa pb. inserted_passes limit (start_a + start_b) s (insert_segments a b) go room
+          (subst (λ (n : ℕ). Passes limit n (insert_segments a b)) (sym e) (r.pass pa.1 pb));
     }
 
 -- the second side goes on
-go_b : (limit start_a start_b : ℕ) (t : Segment) (a b : List Segment) → start_a + start_b + t.up < limit → net_sum a ≤ start_a → net_sum (t ∷ b) ≤ start_b → IsRising (t ∷ b)
+go_b : (limit start_a start_b : ℕ) (t : Segment) (a b : List Segment)
+    → start_a + start_b + t.up < limit → net_sum a ≤ start_a → net_sum (t ∷ b) ≤ start_b → IsRising (t ∷ b)
     → TwoStuck limit start_a (start_b - t.net) a b → TwoStuck limit start_a start_b a (t ∷ b)
 go_b limit start_a start_b t a b go room_a room_b rising r =
     let tot = total_all a b in
     let e : start_a + start_b - t.net ≡ start_a + (start_b - t.net) = omega arith in
     let room : t.net + net_sum (insert_segments a b) ≤ start_a + start_b = omega arith in
     let first : start_b + t.up < limit - r.x = let h = r.low_a in omega arith in
-    let front : insert_segments a (t ∷ b) ≡ insert_segment t (insert_segments a b) = ap (insert_segments a) (sym (front_inserted t b rising)) ∙ inserted_all_comm a t b in
+    let front : insert_segments a (t ∷ b) ≡ insert_segment t (insert_segments a b) =
+    ap (insert_segments a) (sym (front_inserted t b rising)) ∙ inserted_all_comm a t b in
     record {
       x = r.x;
       y = r.y;
       low_a = r.low_a;
       low_b = let h = r.low_b in omega arith;
-      both = ap (lowest limit (start_a + start_b)) front ∙ lowest_inserted limit (start_a + start_b) t (insert_segments a b) go room ∙ ap (λ n. lowest limit n (insert_segments a b)) e ∙ r.both;
+      both = ap (lowest limit (start_a + start_b)) front ∙ lowest_inserted limit (start_a + start_b) t (insert_segments a b) go room
+          ∙ ap (λ n. lowest limit n (insert_segments a b)) e ∙ r.both;
       alone_a = r.alone_a;
       alone_b = lowest_go (limit - r.x) start_b t b first ∙ r.alone_b;
       pass = λ pa pb. subst (λ (l : List Segment). Passes limit (start_a + start_b) l) (sym front)
-          (inserted_passes limit (start_a + start_b) t (insert_segments a b) go room (subst (λ (n : ℕ). Passes limit n (insert_segments a b)) (sym e) (r.pass pa pb.1)));
+          (inserted_passes limit (start_a + start_b) t (insert_segments a b) go room
+          (subst (λ (n : ℕ). Passes limit n (insert_segments a b)) (sym e) (r.pass pa pb.1)));
     }
 
 stay_a : (limit start_a start_b : ℕ) (a : List Segment) → IsStuck limit (start_a + start_b) a → lowest (limit - start_b) start_a a ≡ start_a
@@ -91,7 +99,8 @@ stay_pass limit start_a start_b [] (t ∷ b) ha hb pa pb = absurd (omega arith)
 stay_pass limit start_a start_b (s ∷ a) b ha hb pa pb = absurd (omega arith)
 
 -- neither goes on
-stay : (limit start_a start_b : ℕ) (a b : List Segment) → IsRising a → IsStuck limit (start_a + start_b) a → IsStuck limit (start_a + start_b) b → TwoStuck limit start_a start_b a b
+stay : (limit start_a start_b : ℕ) (a b : List Segment) → IsRising a → IsStuck limit (start_a + start_b) a
+    → IsStuck limit (start_a + start_b) b → TwoStuck limit start_a start_b a b
 stay limit start_a start_b a b rising ha hb = record {
   x = start_a;
   y = start_b;
@@ -103,37 +112,45 @@ stay limit start_a start_b a b rising ha hb = record {
   pass = stay_pass limit start_a start_b a b ha hb;
 }
 
-two_stuck_in : (n limit start_a start_b : ℕ) (a b : List Segment) → length a + length b ≤ n → IsRising a → IsRising b → net_sum a ≤ start_a → net_sum b ≤ start_b → TwoStuck limit start_a start_b a b
+two_stuck_in : (n limit start_a start_b : ℕ) (a b : List Segment) → length a + length b ≤ n → IsRising a
+    → IsRising b → net_sum a ≤ start_a → net_sum b ≤ start_b → TwoStuck limit start_a start_b a b
 two_stuck_in n limit start_a start_b [] [] size ra rb room_a room_b = stay limit start_a start_b [] [] tt tt tt
 two_stuck_in zero limit start_a start_b (s ∷ a) b size ra rb room_a room_b = absurd (omega arith)
 two_stuck_in zero limit start_a start_b [] (t ∷ b) size ra rb room_a room_b = absurd (omega arith)
 two_stuck_in (suc n) limit start_a start_b [] (t ∷ b) size ra rb room_a room_b =
     elim (lt_or_le (start_a + start_b + t.up) limit) [
-      | inl go ↦ go_b limit start_a start_b t [] b go room_a room_b rb (two_stuck_in n limit start_a (start_b - t.net) [] b (omega arith) tt rb.1 room_a (omega arith))
+      | inl go ↦ go_b limit start_a start_b t [] b go room_a room_b rb
+          (two_stuck_in n limit start_a (start_b - t.net) [] b (omega arith) tt rb.1 room_a (omega arith))
       | inr halt ↦ stay limit start_a start_b [] (t ∷ b) tt tt halt
     ]
 two_stuck_in (suc n) limit start_a start_b (s ∷ a) [] size ra rb room_a room_b =
     elim (lt_or_le (start_a + start_b + s.up) limit) [
-      | inl go ↦ go_a limit start_a start_b s a [] go room_a room_b (two_stuck_in n limit (start_a - s.net) start_b a [] (omega arith) ra.1 rb (omega arith) room_b)
+      | inl go ↦ go_a limit start_a start_b s a [] go room_a room_b
+          (two_stuck_in n limit (start_a - s.net) start_b a [] (omega arith) ra.1 rb (omega arith) room_b)
       | inr halt ↦ stay limit start_a start_b (s ∷ a) [] ra halt tt
     ]
 two_stuck_in (suc n) limit start_a start_b (s ∷ a) (t ∷ b) size ra rb room_a room_b =
     elim (lt_or_le (start_a + start_b + s.up) limit) [
-      | inl go ↦ go_a limit start_a start_b s a (t ∷ b) go room_a room_b (two_stuck_in n limit (start_a - s.net) start_b a (t ∷ b) (omega arith) ra.1 rb (omega arith) room_b)
+      | inl go ↦ go_a limit start_a start_b s a (t ∷ b) go room_a room_b
+          (two_stuck_in n limit (start_a - s.net) start_b a (t ∷ b) (omega arith) ra.1 rb (omega arith) room_b)
       | inr halt ↦ elim (lt_or_le (start_a + start_b + t.up) limit) [
-        | inl go ↦ go_b limit start_a start_b t (s ∷ a) b go room_a room_b rb (two_stuck_in n limit start_a (start_b - t.net) (s ∷ a) b (omega arith) ra rb.1 room_a (omega arith))
+        | inl go ↦ go_b limit start_a start_b t (s ∷ a) b go room_a room_b rb
+            (two_stuck_in n limit start_a (start_b - t.net) (s ∷ a) b (omega arith) ra rb.1 room_a (omega arith))
         | inr halt2 ↦ stay limit start_a start_b (s ∷ a) (t ∷ b) ra halt halt2
       ]
     ]
 
-pub two_stuck : (limit start_a start_b : ℕ) (a b : List Segment) → IsRising a → IsRising b → net_sum a ≤ start_a → net_sum b ≤ start_b → TwoStuck limit start_a start_b a b
+pub two_stuck : (limit start_a start_b : ℕ) (a b : List Segment) → IsRising a → IsRising b
+    → net_sum a ≤ start_a → net_sum b ≤ start_b → TwoStuck limit start_a start_b a b
 two_stuck limit start_a start_b a b = two_stuck_in (length a + length b) limit start_a start_b a b (omega arith)
 
 total_merged : (starts : List ℕ) (sides : List (List Segment)) → AllStart starts sides → net_sum (merge_segments sides) ≤ level_sum starts
 total_merged [] [] h = omega arith
 total_merged [] (side ∷ sides) h = absurd h
 total_merged (start ∷ starts) [] h = absurd h
-total_merged (start ∷ starts) (side ∷ sides) h = let t = total_all side (merge_segments sides) in let ih = total_merged starts sides h.1 in omega (arith, t, ih, h.0)
+total_merged (start ∷ starts) (side ∷ sides) h = let t = total_all side (merge_segments sides) in
+    let ih = total_merged starts sides h.1 in
+    omega (arith, t, ih, h.0)
 
 after_inserted_step : (u : ℕ) (s e : Segment) (es : List Segment) → u < s.up → u < e.up → StartsAbove u (insert_segment s (e ∷ es))
 after_inserted_step u s e es hs he = grind (arith, nat_tests)
@@ -142,7 +159,8 @@ after_inserted : (u : ℕ) (s : Segment) (es : List Segment) → u < s.up → St
 after_inserted u s [] hs he = hs
 after_inserted u s (e ∷ es) hs he = after_inserted_step u s e es hs he
 
-rising_step : (s e : Segment) (es : List Segment) → StartsAbove e.up es → IsRising es → (e.up < s.up → StartsAbove e.up (insert_segment s es)) → IsRising (insert_segment s es) → IsRising (insert_segment s (e ∷ es))
+rising_step : (s e : Segment) (es : List Segment) → StartsAbove e.up es → IsRising es
+    → (e.up < s.up → StartsAbove e.up (insert_segment s es)) → IsRising (insert_segment s es) → IsRising (insert_segment s (e ∷ es))
 rising_step s e es after rising after' rising' = grind (arith, nat_tests)
 
 pub rising_inserted : (s : Segment) (es : List Segment) → IsRising es → IsRising (insert_segment s es)
@@ -165,22 +183,29 @@ lowest_at : (m n start : ℕ) (ss : List Segment) → m ≡ n → lowest m start
 lowest_at m n start ss h = ap (λ k. lowest k start ss) h
 
 -- the levels at which all sides together are stuck: each is stuck there alone, below the limit less the levels of all others
-pub all_levels : (limit others : ℕ) (starts : List ℕ) (sides : List (List Segment)) → AllRising sides → AllStart starts sides → (levels : List ℕ) × AreLevels limit others starts sides levels
+pub all_levels : (limit others : ℕ) (starts : List ℕ) (sides : List (List Segment)) → AllRising sides
+    → AllStart starts sides → (levels : List ℕ) × AreLevels limit others starts sides levels
 all_levels limit others [] [] r room = ([], record { together = refl; each = tt; pass = λ _. tt })
 all_levels limit others [] (side ∷ sides) r room = absurd room
 all_levels limit others (start ∷ starts) [] r room = absurd room
 all_levels limit others (start ∷ starts) (side ∷ sides) r room =
-    let two = two_stuck (limit - others) start (level_sum starts) side (merge_segments sides) r.0 (rising_merged sides) room.0 (total_merged starts sides room.1) in
+    let two = two_stuck (limit - others) start (level_sum starts) side
+    (merge_segments sides) r.0 (rising_merged sides) room.0 (total_merged starts sides room.1) in
     let tail = all_levels limit (others + two.x) starts sides r.1 room.1 in
     let levels = tail.0 in
     let rest = tail.1 in
     let m : limit - others - two.x ≡ limit - (others + two.x) = omega arith in
-    let y_is : two.y ≡ level_sum levels = sym two.alone_b ∙ lowest_at (limit - others - two.x) (limit - (others + two.x)) (level_sum starts) (merge_segments sides) m ∙ rest.together in
+    let y_is : two.y ≡ level_sum levels = sym two.alone_b
+    ∙ lowest_at (limit - others - two.x) (limit - (others + two.x)) (level_sum starts) (merge_segments sides) m ∙ rest.together in
     let k : limit - others - two.y ≡ limit - (others + level_sum levels) = omega arith in (
       two.x ∷ levels,
       record {
         together = two.both ∙ ap (λ n. two.x + n) y_is;
-        each = (sym (lowest_at (limit - others - two.y) (limit - (others + level_sum levels)) start side k) ∙ two.alone_a, two.low_a, rest.each);
+        each = (
+          sym (lowest_at (limit - others - two.y) (limit - (others + level_sum levels)) start side k) ∙ two.alone_a,
+          two.low_a,
+          rest.each,
+        );
         pass = λ p. two.pass
             (subst (λ (n : ℕ). Passes n start side) (sym k) p.0)
             (subst (λ (n : ℕ). Passes n (level_sum starts) (merge_segments sides)) (sym m) (rest.pass p.1));

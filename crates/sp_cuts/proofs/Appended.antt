@@ -1,5 +1,6 @@
 -- What holds while the segments of a side are put behind another.
-use Rattle.std.proofs.Common.{◌≡◌, ℕ, ◌+◌, ◌<◌, ◌≤◌, ◌-◌, max, min, Bool, List, [], ◌∷◌, refl, ap, sym, subst, ◌∙◌, arith, length, true, false}
+use Rattle.std.proofs.Common.{◌≡◌, ℕ, ◌+◌, ◌<◌, ◌≤◌, ◌-◌, max, min, Bool, List, [], ◌∷◌}
+use Rattle.std.proofs.Common.{refl, ap, sym, subst, ◌∙◌, arith, length, true, false}
 use Rattle.std.specs.Prelude.{nat_le, Result, Ok, Err, IfOk, OnOk}
 use Rattle.std.specs.Bool.{MatchBool}
 use Rattle.std.proofs.lemmas.Bool.Decides.{nat_tests}
@@ -42,7 +43,8 @@ later_last : (s : Segment) (ss : List Segment) → 0 < length ss → last_up (s 
 later_last s [] h = absurd (omega arith)
 later_last s (t ∷ ss) h = refl
 
-higher_one : (r : Run) (rs : List Run) → last_up (run_profile rs) < r.up → (length (append_run r rs) ≡ length rs + 1) × (last_up (run_profile (append_run r rs)) ≡ r.up)
+higher_one : (r : Run) (rs : List Run) → last_up (run_profile rs) < r.up
+    → (length (append_run r rs) ≡ length rs + 1) × (last_up (run_profile (append_run r rs)) ≡ r.up)
 higher_one r [] h = (refl, refl)
 higher_one r (s ∷ []) h = (two r s h, last r s h)
   where
@@ -54,10 +56,12 @@ higher_one r (s ∷ []) h = (two r s h, last r s h)
 higher_one r (s ∷ t ∷ rs) h =
     let x = higher_one r (t ∷ rs) h in (
       omega (arith, x.0),
-      later_last (run_numbers s) (run_profile (append_run r (t ∷ rs))) (omega (arith, length-map (append_run r (t ∷ rs)) run_numbers, x.0)) ∙ x.1,
+      later_last (run_numbers s) (run_profile (append_run r (t ∷ rs))) (omega (arith, length-map (append_run r (t ∷ rs)) run_numbers, x.0))
+          ∙ x.1,
     )
 
-higher_all : (far near : List Run) → StartsAbove (last_up (run_profile near)) (run_profile far) → IsRising (run_profile far) → length (append_runs far near) ≡ length near + length far
+higher_all : (far near : List Run) → StartsAbove (last_up (run_profile near)) (run_profile far)
+    → IsRising (run_profile far) → length (append_runs far near) ≡ length near + length far
 higher_all [] near h r = omega arith
 higher_all (s ∷ far) near h r =
     let x = higher_one s near h in
@@ -75,14 +79,26 @@ pub record Appending (ropes0 ropes : List (List ℕ)) (far0 near0 far near : Lis
   pub long : length near0 ≤ length near
 
 module _ (laws : SideLaws) where
-  pub appending_starts : (ropes : List (List ℕ)) (far near : List Seg) → HaveRopes ropes far → HaveRopes ropes near → net_sum (profile far) + net_sum (profile near) ≤ most_total → Appending ropes ropes far near far near
-  appending_starts ropes far near f n w = record { told = refl; far_ropes = f; near_ropes = n; kept = laws.runs.itself ropes; within = w; fewer = omega arith; short = omega arith; long = omega arith }
+  pub appending_starts : (ropes : List (List ℕ)) (far near : List Seg) → HaveRopes ropes far → HaveRopes ropes near
+      → net_sum (profile far) + net_sum (profile near) ≤ most_total → Appending ropes ropes far near far near
+  appending_starts ropes far near f n w = record {
+    told = refl;
+    far_ropes = f;
+    near_ropes = n;
+    kept = laws.runs.itself ropes;
+    within = w;
+    fewer = omega arith;
+    short = omega arith;
+    long = omega arith;
+  }
 
-  module _ (ropes0 ropes : List (List ℕ)) (far0 near0 far near rest : List Seg) (s : Seg) (m : Appending ropes0 ropes far0 near0 far near) (first : far ≡ s ∷ rest) where
+  module _ (ropes0 ropes : List (List ℕ)) (far0 near0 far near rest : List Seg) (s : Seg)
+      (m : Appending ropes0 ropes far0 near0 far near) (first : far ≡ s ∷ rest) where
     pub appending_first : IsRope ropes s.tasks × (net_sum (profile near) + s.net ≤ most_total)
     appending_first = let r = rw first at m.far_ropes in let n = rw first at m.within in (r.0, omega arith)
 
-    pub appending_on : (ropes' : List (List ℕ)) (near' : List Seg) → s.up ≤ last_up (profile near) → Extends ropes ropes' → HaveRopes ropes' near' → runs_of ropes' near' ≡ append_run (run_of ropes s) (runs_of ropes near)
+    pub appending_on : (ropes' : List (List ℕ)) (near' : List Seg) → s.up ≤ last_up (profile near) → Extends ropes ropes'
+        → HaveRopes ropes' near' → runs_of ropes' near' ≡ append_run (run_of ropes s) (runs_of ropes near)
         → net_sum (profile near') ≡ net_sum (profile near) + s.net → Appending ropes0 ropes' far0 near0 rest near'
     appending_on ropes' near' low kept ropes_near put net =
         let r = rw first at m.far_ropes in
@@ -107,7 +123,8 @@ module _ (laws : SideLaws) where
         }
 
 -- a side that is higher throughout is behind the other, whichever of the two is moved into the other
-module _ (laws : SideLaws) (old new : List (List ℕ)) (far near all : List Seg) (near_rises : IsRising (profile near)) (far_rises : IsRising (profile far)) (higher : StartsAbove (last_up (profile near)) (profile far)) where
+module _ (laws : SideLaws) (old new : List (List ℕ)) (far near all : List Seg) (near_rises : IsRising (profile near))
+    (far_rises : IsRising (profile far)) (higher : StartsAbove (last_up (profile near)) (profile far)) where
   near_runs : IsRising (run_profile (runs_of old near))
   near_runs = rw (laws.runs.profile old near) near_rises
 
@@ -118,22 +135,35 @@ module _ (laws : SideLaws) (old new : List (List ℕ)) (far near all : List Seg)
   higher_runs = rw (laws.runs.profile old near, laws.runs.profile old far) higher
 
   pub joined_all : runs_of new all ≡ append_runs (runs_of old far) (runs_of old near) → length all ≡ length near + length far
-  joined_all e = omega (arith, length_runs new all, length_runs old near, length_runs old far, ap (length {A = Run}) e, higher_all (runs_of old far) (runs_of old near) higher_runs far_runs)
+  joined_all e = omega (
+    arith,
+    length_runs new all,
+    length_runs old near,
+    length_runs old far,
+    ap (length {A = Run}) e,
+    higher_all (runs_of old far) (runs_of old near) higher_runs far_runs,
+  )
 
-  pub near_moved : runs_of new all ≡ move_runs true (runs_of old near) (runs_of old far) → runs_of new all ≡ append_runs (runs_of old far) (runs_of old near)
-  near_moved e = e ∙ laws.before (runs_of old near) (runs_of old far) near_runs ∙ sym (laws.appends (runs_of old far) (runs_of old near) near_runs far_runs higher_runs)
+  pub near_moved : runs_of new all ≡ move_runs true (runs_of old near) (runs_of old far)
+      → runs_of new all ≡ append_runs (runs_of old far) (runs_of old near)
+  near_moved e = e ∙ laws.before (runs_of old near) (runs_of old far) near_runs
+      ∙ sym (laws.appends (runs_of old far) (runs_of old near) near_runs far_runs higher_runs)
 
-  pub far_moved : runs_of new all ≡ move_runs false (runs_of old far) (runs_of old near) → runs_of new all ≡ append_runs (runs_of old far) (runs_of old near)
-  far_moved e = e ∙ laws.behind (runs_of old far) (runs_of old near) far_runs near_runs ∙ sym (laws.appends (runs_of old far) (runs_of old near) near_runs far_runs higher_runs)
+  pub far_moved : runs_of new all ≡ move_runs false (runs_of old far) (runs_of old near)
+      → runs_of new all ≡ append_runs (runs_of old far) (runs_of old near)
+  far_moved e = e ∙ laws.behind (runs_of old far) (runs_of old near) far_runs near_runs
+      ∙ sym (laws.appends (runs_of old far) (runs_of old near) near_runs far_runs higher_runs)
 
 -- ---- what is counted
 
-pub both_ok : {T E : Type 0} (r : Result T E) (P : T → Type 0) (Q : Type 0) (R : T → Type 0) → ((x : T) → P x → Q → R x) → IfOk r P → OnOk r Q → IfOk r R
+pub both_ok : {T E : Type 0} (r : Result T E) (P : T → Type 0) (Q : Type 0) (R : T → Type 0)
+    → ((x : T) → P x → Q → R x) → IfOk r P → OnOk r Q → IfOk r R
 both_ok (Ok x) P Q R f p q = f x p q
 both_ok (Err e) P Q R f p q = tt
 
 -- the segments of a side that low ones were joined to
-pub counted_joined : (near0 near far whole old new : ℕ) → near0 ≤ near → near ≤ max 1 near0 → whole ≡ near + far → new ≡ old + min near far → CountsFewer near0 (max 1 near0) whole old new
+pub counted_joined : (near0 near far whole old new : ℕ) → near0 ≤ near → near ≤ max 1 near0
+    → whole ≡ near + far → new ≡ old + min near far → CountsFewer near0 (max 1 near0) whole old new
 counted_joined near0 near far whole old new long short e f = record {
   own = near;
   at_least = long;
@@ -143,7 +173,8 @@ counted_joined near0 near far whole old new long short e f = record {
 }
 
 -- with one more of the hill
-pub counted_over : (near near1 whole old new : ℕ) → near ≤ near1 → near1 ≤ near + 1 → 1 ≤ near1 → CountsFewer near1 (max 1 near1) whole old new → CountsFewer near (near + 1) whole old new
+pub counted_over : (near near1 whole old new : ℕ) → near ≤ near1 → near1 ≤ near + 1 → 1 ≤ near1
+    → CountsFewer near1 (max 1 near1) whole old new → CountsFewer near (near + 1) whole old new
 counted_over near near1 whole old new long short some x =
     let l = x.at_least in
     let m = x.at_most in

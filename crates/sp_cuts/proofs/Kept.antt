@@ -10,7 +10,9 @@ use Rattle.sp_cuts.specs.declared.parts.Part.{Part}
 use Rattle.sp_cuts.specs.Parts.{cut_of, cuts_of, HasSides, IsPart, AreParts}
 use Rattle.sp_cuts.specs.Splits.{IsRough, AreRough}
 
-pub same_cut : (f f' b b' : List Run) (i e l : ℕ) → f ≡ f' → b ≡ b' → ◌≡◌ {A = Cut} (record { front = f; back = b; initial = i; fin = e; least = l }) (record { front = f'; back = b'; initial = i; fin = e; least = l })
+pub same_cut : (f f' b b' : List Run) (i e l : ℕ) → f ≡ f' → b ≡ b'
+    → ◌≡◌ {A = Cut} (record { front = f; back = b; initial = i; fin = e; least = l })
+    (record { front = f'; back = b'; initial = i; fin = e; least = l })
 same_cut f f' b b' i e l p q = rw (p, q) refl
 
 -- the greater of the peaks of both sides
@@ -18,25 +20,41 @@ abbrev pub peak_of_cut : Cut → ℕ
 peak_of_cut c = max (front_peak c) (back_peak c)
 
 -- sides that make a cut with what its cut says
-pub sides_of : (lists : List (List ℕ)) (p : Part) (c : Cut) → cut_of lists p ≡ c → HaveRopes lists p.front → HaveRopes lists p.back → MeetsAtLeast c → BothRise c → HasSides lists p
-sides_of lists p c e f b m r = record { front_ropes = f; back_ropes = b; meets = subst MeetsAtLeast (sym e) m; rising = subst BothRise (sym e) r }
+pub sides_of : (lists : List (List ℕ)) (p : Part) (c : Cut) → cut_of lists p ≡ c
+    → HaveRopes lists p.front → HaveRopes lists p.back → MeetsAtLeast c → BothRise c → HasSides lists p
+sides_of lists p c e f b m r =
+    record { front_ropes = f; back_ropes = b; meets = subst MeetsAtLeast (sym e) m; rising = subst BothRise (sym e) r }
 
 module _ (laws : SideLaws) where
   pub cut_kept : (old new : List (List ℕ)) (p : Part) → HasSides old p → Extends old new → cut_of new p ≡ cut_of old p
   cut_kept old new p h k =
-      same_cut (runs_of new p.front) (runs_of old p.front) (runs_of new p.back) (runs_of old p.back) p.initial p.fin p.least (laws.runs.stay old new p.front h.front_ropes k).1 (laws.runs.stay old new p.back h.back_ropes k).1
+      same_cut (runs_of new p.front) (runs_of old p.front) (runs_of new p.back) (runs_of old p.back) p.initial p.fin p.least
+      (laws.runs.stay old new p.front h.front_ropes k).1 (laws.runs.stay old new p.back h.back_ropes k).1
 
   pub sides_kept : (old new : List (List ℕ)) (p : Part) → HasSides old p → Extends old new → HasSides new p
   sides_kept old new p h k =
-      sides_of new p (cut_of old p) (cut_kept old new p h k) (laws.runs.stay old new p.front h.front_ropes k).0 (laws.runs.stay old new p.back h.back_ropes k).0 h.meets h.rising
+      sides_of new p (cut_of old p) (cut_kept old new p h k) (laws.runs.stay old new p.front h.front_ropes k).0
+      (laws.runs.stay old new p.back h.back_ropes k).0 h.meets h.rising
 
   pub rough_kept : (old new : List (List ℕ)) (p : Part) → IsRough old p → Extends old new → IsRough new p
-  rough_kept old new p h k = record { both = sides_kept old new p h.both k; bound = let b = h.bound in omega (arith, ap peak_of_cut (cut_kept old new p h.both k)); within = h.within }
+  rough_kept old new p h k = record {
+    both = sides_kept old new p h.both k;
+    bound = let b = h.bound in omega (arith, ap peak_of_cut (cut_kept old new p h.both k));
+    within = h.within;
+  }
 
   pub parts_stay : (old new : List (List ℕ)) (p : Part) → IsPart old p → Extends old new → IsPart new p × (cut_of new p ≡ cut_of old p)
-  parts_stay old new p h k = (record { both = sides_kept old new p h.both k; peak = h.peak ∙ sym (ap peak_of_cut (cut_kept old new p h.both k)); within = h.within }, cut_kept old new p h.both k)
+  parts_stay old new p h k = (
+    record {
+      both = sides_kept old new p h.both k;
+      peak = h.peak ∙ sym (ap peak_of_cut (cut_kept old new p h.both k));
+      within = h.within;
+    },
+    cut_kept old new p h.both k,
+  )
 
-  pub all_parts_stay : (old new : List (List ℕ)) (ps : List Part) → AreParts old ps → Extends old new → AreParts new ps × (cuts_of new ps ≡ cuts_of old ps)
+  pub all_parts_stay : (old new : List (List ℕ)) (ps : List Part) → AreParts old ps
+      → Extends old new → AreParts new ps × (cuts_of new ps ≡ cuts_of old ps)
   all_parts_stay old new [] h k = (tt, refl)
   all_parts_stay old new (p ∷ ps) h k =
       let one = parts_stay old new p h.0 k in
@@ -72,7 +90,8 @@ module _ (laws : SideLaws) where
         end = omega (arith, laws.above p.fin (run_profile (runs_of lists p.back)));
       }
 
-  pub within_peak : (lists : List (List ℕ)) (p : Part) → IsPart lists p → (p.least ≤ p.initial) × (p.least ≤ p.fin) × (p.initial ≤ p.peak) × (p.fin ≤ p.peak)
+  pub within_peak : (lists : List (List ℕ)) (p : Part) → IsPart lists p
+      → (p.least ≤ p.initial) × (p.least ≤ p.fin) × (p.initial ≤ p.peak) × (p.fin ≤ p.peak)
   within_peak lists p h =
       let w = within lists p h.both in
       let s = w.start in let e = w.end in let f = w.front_net in let b = w.back_net in

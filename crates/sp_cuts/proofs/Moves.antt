@@ -1,5 +1,6 @@
 -- How many segments are moved while a term's part is made.
-use Rattle.std.proofs.Common.{◌≡◌, ℕ, zero, suc, ◌+◌, ◌*◌, ◌<◌, ◌≤◌, ◌^◌, ◌⊎◌, inl, inr, List, [], ◌∷◌, refl, ap, sym, arith, subst, length, Some}
+use Rattle.std.proofs.Common.{◌≡◌, ℕ, zero, suc, ◌+◌, ◌*◌, ◌<◌, ◌≤◌, ◌^◌, ◌⊎◌, inl, inr}
+use Rattle.std.proofs.Common.{List, [], ◌∷◌, refl, ap, sym, arith, subst, length, Some}
 use Rattle.std.proofs.lemmas.Bool.Decides.{nat_tests}
 use Rattle.std.specs.List.{AllByRecursion, sum_by}
 use Rattle.std.proofs.lemmas.List.Sums.{sum_by-cons}
@@ -30,7 +31,9 @@ moves_few : (a b : Part) (m n : ℕ) → length a.front + length a.back ≤ m �
     → ((moves_between a b ≤ m) × (moves_between a b ≤ n + 1)) ⊎ ((moves_between a b ≤ m + 1) × (moves_between a b ≤ n))
 moves_few a b m n h k = grind (arith, nat_tests)
 
-pub moved_series : SideLaws → (lists : List (List ℕ)) (base next : ℕ) (a : Term) (v : Task) (b : Term) (pa pb : Part) (st : List Term) (total : ℕ) → IsPartOf lists base a pa → IsPartOf lists next b pb → AreMoved (b ∷ a ∷ st) total
+pub moved_series : SideLaws
+    → (lists : List (List ℕ)) (base next : ℕ) (a : Term) (v : Task) (b : Term) (pa pb : Part) (st : List Term) (total : ℕ)
+    → IsPartOf lists base a pa → IsPartOf lists next b pb → AreMoved (b ∷ a ∷ st) total
     → AreMoved (series a v b ∷ st) (total + moves_between pa pb)
 moved_series laws lists base next a v b pa pb st total ha hb (m, rest, h, e, (n, rest', k, f, g)) =
     let x = moves_between pa pb in (
@@ -39,10 +42,12 @@ moved_series laws lists base next a v b pa pb st total ha hb (m, rest, h, e, (n,
       elim (moves_few pa pb (task_count a) (task_count b) (few lists base a pa ha) (few lists next b pb hb)) [
         | inl w ↦
             let more = laws.more_tasks m (task_count b) (task_count b + 1) h (omega arith) in
-            laws.more_tasks (n + m + x) (task_count a + (task_count b + 1)) (task_count (series a v b)) (laws.series n m x (task_count a) (task_count b + 1) k more w.0 w.1) (omega arith)
+            laws.more_tasks (n + m + x) (task_count a + (task_count b + 1)) (task_count (series a v b))
+            (laws.series n m x (task_count a) (task_count b + 1) k more w.0 w.1) (omega arith)
         | inr w ↦
             let more = laws.more_tasks n (task_count a) (task_count a + 1) k (omega arith) in
-            laws.more_tasks (n + m + x) (task_count a + 1 + task_count b) (task_count (series a v b)) (laws.series n m x (task_count a + 1) (task_count b) more h w.0 w.1) (omega arith)
+            laws.more_tasks (n + m + x) (task_count a + 1 + task_count b) (task_count (series a v b))
+            (laws.series n m x (task_count a + 1) (task_count b) more h w.0 w.1) (omega arith)
       ],
       omega arith,
       g,
@@ -57,9 +62,11 @@ record Parted (ts : Parts) (rest : List Term) (total : ℕ) : Type 0 where
   below : AreMoved rest y
   sum : x + y ≡ total
 
-parted : (k : ℕ) (st : List Term) (acc ts : Parts) (rest : List Term) (total extra : ℕ) → AreMoved st total → AreMovedParts acc extra → gather k st acc ≡ Some (ts, rest) → Parted ts rest (extra + total)
+parted : (k : ℕ) (st : List Term) (acc ts : Parts) (rest : List Term) (total extra : ℕ) → AreMoved st total
+    → AreMovedParts acc extra → gather k st acc ≡ Some (ts, rest) → Parted ts rest (extra + total)
 parted zero st acc ts rest total extra h a e =
-    subst (λ (r : Parts × List Term). Parted r.0 r.1 (extra + total)) (some_same e) (record { x = extra; y = total; parts = a; below = h; sum = refl })
+    subst (λ (r : Parts × List Term). Parted r.0 r.1 (extra + total)) (some_same e)
+    (record { x = extra; y = total; parts = a; below = h; sum = refl })
 parted (suc k) [] acc ts rest total extra h a e = absurd (none_some e)
 parted (suc k) (t ∷ st) acc ts rest total extra (m, left, p, q, g) a e =
     let r = parted k st (part t acc) ts rest left (m + extra) g (m, extra, p, refl, a) e in
@@ -74,8 +81,10 @@ record AreCounted (ts : Parts) (ps : List Part) (x : ℕ) (cs : List Counted) : 
   long_front : greatest_of (λ p. p.front) cs ≡ longest (front_sides ps)
   long_back : greatest_of (λ p. p.back) cs ≡ longest (backs_of ps)
 
-are_counted : (lists : List (List ℕ)) (base : ℕ) (ts : Parts) (ps : List Part) (x : ℕ) → ArePartsOf lists base ts ps → AreMovedParts ts x → (cs : List Counted) × AreCounted ts ps x cs
-are_counted lists base no_parts [] x h a = ([], record { all = tt; moves = sym a; tasks = refl; front = refl; back = refl; long_front = refl; long_back = refl })
+are_counted : (lists : List (List ℕ)) (base : ℕ) (ts : Parts) (ps : List Part) (x : ℕ)
+    → ArePartsOf lists base ts ps → AreMovedParts ts x → (cs : List Counted) × AreCounted ts ps x cs
+are_counted lists base no_parts [] x h a =
+    ([], record { all = tt; moves = sym a; tasks = refl; front = refl; back = refl; long_front = refl; long_back = refl })
 are_counted lists base no_parts (p ∷ ps) x h a = absurd h
 are_counted lists base (part t ts) [] x h a = absurd h
 are_counted lists base (part t ts) (p ∷ ps) x h (m, rest, g, e, a) =
@@ -86,20 +95,24 @@ are_counted lists base (part t ts) (p ∷ ps) x h (m, rest, g, e, a) =
         all = ((g, few lists base t p h.0), r.all);
         moves = omega (arith, r.moves, sum_by-cons (λ (x : Counted). x.moves) c cs);
         tasks = omega (arith, r.tasks, sum_by-cons (λ (x : Counted). x.tasks) c cs);
-        front = omega (arith, r.front, sum_by-cons (λ (x : Counted). x.front) c cs, sum_by-cons (length {A = Seg}) p.front (front_sides ps));
+        front =
+            omega (arith, r.front, sum_by-cons (λ (x : Counted). x.front) c cs, sum_by-cons (length {A = Seg}) p.front (front_sides ps));
         back = omega (arith, r.back, sum_by-cons (λ (x : Counted). x.back) c cs, sum_by-cons (length {A = Seg}) p.back (backs_of ps));
         long_front = omega (arith, r.long_front);
         long_back = omega (arith, r.long_back);
       },
     )
 
-pub moved_par : SideLaws → (lists : List (List ℕ)) (base k : ℕ) (st : List Term) (ts : Parts) (rest : List Term) (ps : List Part) (total : ℕ) → ArePartsOf lists base ts ps → AreMoved st total → gather k st no_parts ≡ Some (ts, rest)
+pub moved_par : SideLaws
+    → (lists : List (List ℕ)) (base k : ℕ) (st : List Term) (ts : Parts) (rest : List Term) (ps : List Part) (total : ℕ)
+    → ArePartsOf lists base ts ps → AreMoved st total → gather k st no_parts ≡ Some (ts, rest)
     → AreMoved (par ts ∷ rest) (total + moves_in ps)
 moved_par laws lists base k st ts rest ps total h g e =
     let s = parted k st no_parts ts rest total 0 g refl e in
     let (cs, r) = are_counted lists base ts ps s.x h s.parts in
     let p = laws.parallel cs r.all (s.x + moves_in ps) (omega (arith, r.moves, r.front, r.back, r.long_front, r.long_back)) in
-    let q : 2 ^ (s.x + moves_in ps) ≤ task_count_of_parts ts ^ task_count_of_parts ts = subst (λ (n : ℕ). 2 ^ (s.x + moves_in ps) ≤ n ^ n) r.tasks p in
+    let q : 2 ^ (s.x + moves_in ps) ≤ task_count_of_parts ts ^ task_count_of_parts ts =
+    subst (λ (n : ℕ). 2 ^ (s.x + moves_in ps) ≤ n ^ n) r.tasks p in
     (s.x + moves_in ps, s.y, q, omega (arith, s.sum), s.below)
 
 -- ---- the whole
@@ -111,4 +124,5 @@ moved_stack laws (t ∷ st) total (m, rest, h, e, g) =
     (laws.series m rest 0 (task_count t) (stack_tasks st) h (moved_stack laws st rest g) (omega arith) (omega arith))
 
 pub moved_bound : SideLaws → (st : List Term) (total s d : ℕ) → AreMoved st total → stack_tasks st ≤ s → s < 2 ^ d → total ≤ s * d
-moved_bound laws st total s d h le hd = laws.bounded total s d (laws.more_tasks total (stack_tasks st) s (moved_stack laws st total h) le) hd
+moved_bound laws st total s d h le hd =
+    laws.bounded total s d (laws.more_tasks total (stack_tasks st) s (moved_stack laws st total h) le) hd

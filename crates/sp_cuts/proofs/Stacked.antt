@@ -1,5 +1,6 @@
 -- Parts on a stack, and what joining some of them makes.
-use Rattle.std.proofs.Common.{◌≡◌, ℕ, zero, suc, ◌+◌, ◌≤◌, max, List, [], ◌∷◌, ◌++◌, refl, ap, sym, ◌∙◌, arith, subst, length, reverse, Some, take, drop, length-drop, take-append-drop}
+use Rattle.std.proofs.Common.{◌≡◌, ℕ, zero, suc, ◌+◌, ◌≤◌, max, List, [], ◌∷◌, ◌++◌, refl, ap, sym, ◌∙◌, arith}
+use Rattle.std.proofs.Common.{subst, length, reverse, Some, take, drop, length-drop, take-append-drop}
 use Rattle.std.proofs.lemmas.Grind.{common_steps}
 use Rattle.std.specs.List.{sum_by}
 use Rattle.std.proofs.lemmas.List.{reverse-append}
@@ -30,12 +31,14 @@ initial_is lists base t p h = ap (λ (c : Cut). c.initial) h.cut ∙ cut_initial
 pub fin_is : (lists : List (List ℕ)) (base : ℕ) (t : Term) (p : Part) → IsPartOf lists base t p → p.fin ≡ final_of t
 fin_is lists base t p h = ap (λ (c : Cut). c.fin) h.cut ∙ cut_fin t (numbered base t)
 
-pub hold_of : (lists : List (List ℕ)) (base size : ℕ) (p : Part) → cut_of lists p ≡ hold_cut size → IsPart lists p → p.peak ≡ size → IsPartOf lists base (hold size) p
+pub hold_of : (lists : List (List ℕ)) (base size : ℕ) (p : Part) → cut_of lists p ≡ hold_cut size
+    → IsPart lists p → p.peak ≡ size → IsPartOf lists base (hold size) p
 hold_of lists base size p e h peak = record { cut = e; rough = rough lists p h; weight = omega arith }
 
 module _ (laws : SideLaws) where
   of_kept : (old new : List (List ℕ)) (base : ℕ) (t : Term) (p : Part) → IsPartOf old base t p → Extends old new → IsPartOf new base t p
-  of_kept old new base t p h k = record { cut = cut_kept laws old new p h.rough.both k ∙ h.cut; rough = rough_kept laws old new p h.rough k; weight = h.weight }
+  of_kept old new base t p h k =
+      record { cut = cut_kept laws old new p h.rough.both k ∙ h.cut; rough = rough_kept laws old new p h.rough k; weight = h.weight }
 
   pub piled_kept : (old new : List (List ℕ)) (st : List Term) (ps : List Part) → ArePiled old st ps → Extends old new → ArePiled new st ps
   piled_kept old new [] [] h k = tt
@@ -50,7 +53,8 @@ module _ (laws : SideLaws) where
   pub end_within : (lists : List (List ℕ)) (base : ℕ) (t : Term) (p : Part) → IsPartOf lists base t p → p.fin ≤ p.peak
   end_within lists base t p h = let w = (within laws lists p h.rough.both).end in let b = h.rough.bound in omega arith
 
-  series_of : (r0 r2 : List (List ℕ)) (base : ℕ) (a : Term) (v : Task) (b : Term) (pa pb p : Part) → IsPartOf r0 base a pa → IsPartOf r0 (base + task_count a) b pb
+  series_of : (r0 r2 : List (List ℕ)) (base : ℕ) (a : Term) (v : Task) (b : Term) (pa pb p : Part)
+      → IsPartOf r0 base a pa → IsPartOf r0 (base + task_count a) b pb
       → cut_of r2 p ≡ series_cut (cut_of r0 pa) (base + (task_count a + task_count b)) (hill_between pa v pb) (cut_of r0 pb)
       → IsRough r2 p → v.share ≤ pa.fin → p.peak ≡ max pa.peak (max (hill_between pa v pb) pb.peak) → IsPartOf r2 base (series a v b) p
   series_of r0 r2 base a v b pa pb p ha hb e r share peak =
@@ -69,7 +73,8 @@ module _ (laws : SideLaws) where
 
 -- ---- several parts
 
-cuts_are : (lists : List (List ℕ)) (base : ℕ) (ts : Parts) (ps : List Part) → ArePartsOf lists base ts ps → cuts_of lists ps ≡ cuts_of_parts ts (numbered_parts base ts)
+cuts_are : (lists : List (List ℕ)) (base : ℕ) (ts : Parts) (ps : List Part)
+    → ArePartsOf lists base ts ps → cuts_of lists ps ≡ cuts_of_parts ts (numbered_parts base ts)
 cuts_are lists base no_parts [] h = refl
 cuts_are lists base no_parts (p ∷ ps) h = absurd h
 cuts_are lists base (part t ts) [] h = absurd h
@@ -81,13 +86,17 @@ all_rough lists base no_parts (p ∷ ps) h = absurd h
 all_rough lists base (part t ts) [] h = absurd h
 all_rough lists base (part t ts) (p ∷ ps) h = (h.0.rough, all_rough lists (base + task_count t) ts ps h.1)
 
-pub all_peaks : (lists : List (List ℕ)) (base : ℕ) (ts : Parts) (ps : List Part) → ArePartsOf lists base ts ps → sum_by (λ p. p.peak) ps ≤ total_of_parts ts
+pub all_peaks : (lists : List (List ℕ)) (base : ℕ) (ts : Parts) (ps : List Part)
+    → ArePartsOf lists base ts ps → sum_by (λ p. p.peak) ps ≤ total_of_parts ts
 all_peaks lists base no_parts [] h = omega arith
 all_peaks lists base no_parts (p ∷ ps) h = absurd h
 all_peaks lists base (part t ts) [] h = absurd h
-all_peaks lists base (part t ts) (p ∷ ps) h = let r = all_peaks lists (base + task_count t) ts ps h.1 in let w = h.0.weight in omega (arith, sum_by-cons (λ (q : Part). q.peak) p ps)
+all_peaks lists base (part t ts) (p ∷ ps) h = let r = all_peaks lists (base + task_count t) ts ps h.1 in
+    let w = h.0.weight in
+    omega (arith, sum_by-cons (λ (q : Part). q.peak) p ps)
 
-par_of : (r0 r2 : List (List ℕ)) (base : ℕ) (ts : Parts) (ps : List Part) (p : Part) → ArePartsOf r0 base ts ps → cut_of r2 p ≡ par_cut (cuts_of r0 ps) → IsRough r2 p → p.peak ≡ sum_by (λ p. p.peak) ps → IsPartOf r2 base (par ts) p
+par_of : (r0 r2 : List (List ℕ)) (base : ℕ) (ts : Parts) (ps : List Part) (p : Part) → ArePartsOf r0 base ts ps
+    → cut_of r2 p ≡ par_cut (cuts_of r0 ps) → IsRough r2 p → p.peak ≡ sum_by (λ p. p.peak) ps → IsPartOf r2 base (par ts) p
 par_of r0 r2 base ts ps p h e r peak =
     let w = all_peaks r0 base ts ps h in
     record { cut = e ∙ ap par_cut (cuts_are r0 base ts ps h); rough = r; weight = omega arith }
@@ -98,35 +107,44 @@ pub record Taken (lists : List (List ℕ)) (ts : Parts) (rest : List Term) (ps b
   pub all : ArePartsOf lists (suc (stack_tasks rest)) ts ps
   pub piled : ArePiled lists rest below
 
-taken_go : (lists : List (List ℕ)) (k : ℕ) (st : List Term) (acc ts : Parts) (rest : List Term) (xs below done : List Part) → length xs ≡ k → ArePiled lists st (xs ++ below)
+taken_go : (lists : List (List ℕ)) (k : ℕ) (st : List Term) (acc ts : Parts) (rest : List Term) (xs below done : List Part)
+    → length xs ≡ k → ArePiled lists st (xs ++ below)
     → ArePartsOf lists (suc (stack_tasks st)) acc done → gather k st acc ≡ Some (ts, rest) → Taken lists ts rest (reverse xs ++ done) below
 taken_go lists zero st acc ts rest [] below done n h a e =
     let s = some_same e in
-    record { all = subst (λ (r : Parts × List Term). ArePartsOf lists (suc (stack_tasks r.1)) r.0 done) s a; piled = subst (λ (r : Parts × List Term). ArePiled lists r.1 below) s h }
+    record {
+      all = subst (λ (r : Parts × List Term). ArePartsOf lists (suc (stack_tasks r.1)) r.0 done) s a;
+      piled = subst (λ (r : Parts × List Term). ArePiled lists r.1 below) s h;
+    }
 taken_go lists zero st acc ts rest (x ∷ xs) below done n h a e = absurd (omega arith)
 taken_go lists (suc k) st acc ts rest [] below done n h a e = absurd (omega arith)
 taken_go lists (suc k) [] acc ts rest (x ∷ xs) below done n h a e = absurd h
 taken_go lists (suc k) (t ∷ st) acc ts rest (x ∷ xs) below done n h a e =
     let b : suc (task_count t + stack_tasks st) ≡ suc (stack_tasks st) + task_count t = omega arith in
-    let r = taken_go lists k st (part t acc) ts rest xs below (x ∷ done) (omega arith) h.1 (h.0, subst (λ (m : ℕ). ArePartsOf lists m acc done) b a) e in
+    let r = taken_go lists k st (part t acc) ts rest xs below (x ∷ done)
+    (omega arith) h.1 (h.0, subst (λ (m : ℕ). ArePartsOf lists m acc done) b a) e in
     let same : reverse xs ++ x ∷ done ≡ reverse (x ∷ xs) ++ done = grind (arith, common_steps) in
     subst (λ (l : List Part). Taken lists ts rest l below) same r
 
-taken : (lists : List (List ℕ)) (k : ℕ) (st : List Term) (ts : Parts) (rest : List Term) (ps below : List Part) → length ps ≡ k → ArePiled lists st (reverse ps ++ below)
+taken : (lists : List (List ℕ)) (k : ℕ) (st : List Term) (ts : Parts) (rest : List Term) (ps below : List Part)
+    → length ps ≡ k → ArePiled lists st (reverse ps ++ below)
     → gather k st no_parts ≡ Some (ts, rest) → Taken lists ts rest ps below
 taken lists k st ts rest ps below n h e =
-    let r = taken_go lists k st no_parts ts rest (reverse ps) below [] (let l : length (reverse ps) ≡ length ps = grind (arith, common_steps) in omega arith) h tt e in
+    let r = taken_go lists k st no_parts ts rest (reverse ps) below []
+    (let l : length (reverse ps) ≡ length ps = grind (arith, common_steps) in omega arith) h tt e in
     let same : reverse (reverse ps) ++ [] ≡ ps = grind (arith, common_steps) in
     subst (λ (l : List Part). Taken lists ts rest l below) same r
 
 cut_at : (at : ℕ) (items : List Part) → reverse items ≡ reverse (drop at items) ++ reverse (take at items)
 cut_at at items = ap (reverse {A = Part}) (sym (take-append-drop at items)) ∙ reverse-append (take at items) (drop at items)
 
-pub par_taken : (r0 : List (List ℕ)) (st : List Term) (ts : Parts) (rest : List Term) (items low ps : List Part) (at many : ℕ) → gather many st no_parts ≡ Some (ts, rest) → ArePiled r0 st (reverse items)
+pub par_taken : (r0 : List (List ℕ)) (st : List Term) (ts : Parts) (rest : List Term) (items low ps : List Part) (at many : ℕ)
+    → gather many st no_parts ≡ Some (ts, rest) → ArePiled r0 st (reverse items)
     → at + many ≡ length items → low ≡ take at items → ps ≡ drop at items → Taken r0 ts rest ps (reverse low)
 par_taken r0 st ts rest items low ps at many g piled n l d =
     let e : reverse items ≡ reverse ps ++ reverse low = cut_at at items ∙ rw (l, d) refl in
-    taken r0 many st ts rest ps (reverse low) (ap (length {A = Part}) d ∙ length-drop at items ∙ omega arith) (subst (ArePiled r0 st) e piled) g
+    taken r0 many st ts rest ps (reverse low)
+    (ap (length {A = Part}) d ∙ length-drop at items ∙ omega arith) (subst (ArePiled r0 st) e piled) g
 
 piled_length : (lists : List (List ℕ)) (st : List Term) (ps : List Part) → ArePiled lists st ps → length ps ≡ length st
 piled_length lists [] [] h = refl
@@ -141,22 +159,30 @@ gathered_length (suc k) (t ∷ st) acc ts rest e = let r = gathered_length k st 
 
 -- a stack of terms has as many parts
 pub stack_length : (r0 : List (List ℕ)) (st : List Term) (items : List Part) → ArePiled r0 st (reverse items) → length items ≡ length st
-stack_length r0 st items piled = let b = piled_length r0 st (reverse items) piled in let c : length (reverse items) ≡ length items = grind (arith, common_steps) in omega arith
+stack_length r0 st items piled = let b = piled_length r0 st (reverse items) piled in
+    let c : length (reverse items) ≡ length items = grind (arith, common_steps) in
+    omega arith
 
-pub many_fit : (r0 : List (List ℕ)) (st : List Term) (ts : Parts) (rest : List Term) (items : List Part) (many : ℕ) → gather many st no_parts ≡ Some (ts, rest) → ArePiled r0 st (reverse items) → many ≤ length items
+pub many_fit : (r0 : List (List ℕ)) (st : List Term) (ts : Parts) (rest : List Term) (items : List Part) (many : ℕ)
+    → gather many st no_parts ≡ Some (ts, rest) → ArePiled r0 st (reverse items) → many ≤ length items
 many_fit r0 st ts rest items many g piled =
     omega (arith, gathered_length many st no_parts ts rest g, stack_length r0 st items piled)
 
 -- ---- one more part on top
 
-pub one_more : (lists : List (List ℕ)) (st : List Term) (t : Term) (low : List Part) (p : Part) → IsPartOf lists (suc (stack_tasks st)) t p → ArePiled lists st (reverse low) → ArePiled lists (t ∷ st) (reverse (low ++ p ∷ []))
-one_more lists st t low p h k = let e : p ∷ reverse low ≡ reverse (low ++ p ∷ []) = grind (arith, common_steps) in subst (ArePiled lists (t ∷ st)) e (h, k)
+pub one_more : (lists : List (List ℕ)) (st : List Term) (t : Term) (low : List Part) (p : Part)
+    → IsPartOf lists (suc (stack_tasks st)) t p → ArePiled lists st (reverse low) → ArePiled lists (t ∷ st) (reverse (low ++ p ∷ []))
+one_more lists st t low p h k = let e : p ∷ reverse low ≡ reverse (low ++ p ∷ []) = grind (arith, common_steps) in
+    subst (ArePiled lists (t ∷ st)) e (h, k)
 
-pub par_done : SideLaws → (r0 r2 : List (List ℕ)) (ts : Parts) (rest : List Term) (low ps : List Part) (p : Part) (items' : List Part) → Taken r0 ts rest ps (reverse low) → Extends r0 r2
-    → cut_of r2 p ≡ par_cut (cuts_of r0 ps) → IsRough r2 p → p.peak ≡ sum_by (λ p. p.peak) ps → items' ≡ low ++ p ∷ [] → ArePiled r2 (par ts ∷ rest) (reverse items')
+pub par_done : SideLaws → (r0 r2 : List (List ℕ)) (ts : Parts) (rest : List Term) (low ps : List Part) (p : Part) (items' : List Part)
+    → Taken r0 ts rest ps (reverse low) → Extends r0 r2
+    → cut_of r2 p ≡ par_cut (cuts_of r0 ps) → IsRough r2 p → p.peak ≡ sum_by (λ p. p.peak) ps
+    → items' ≡ low ++ p ∷ [] → ArePiled r2 (par ts ∷ rest) (reverse items')
 par_done laws r0 r2 ts rest low ps p items' t kept cut r peak new =
     let f = par_of r0 r2 (suc (stack_tasks rest)) ts ps p t.all cut r peak in
-    subst (λ (l : List Part). ArePiled r2 (par ts ∷ rest) (reverse l)) (sym new) (one_more r2 rest (par ts) low p f (piled_kept laws r0 r2 rest (reverse low) t.piled kept))
+    subst (λ (l : List Part). ArePiled r2 (par ts ∷ rest) (reverse l)) (sym new)
+    (one_more r2 rest (par ts) low p f (piled_kept laws r0 r2 rest (reverse low) t.piled kept))
 
 -- ---- the two parts on top
 
@@ -165,10 +191,12 @@ pub record TwoTops (lists : List (List ℕ)) (st : List Term) (a b : Term) (low 
   pub second : IsPartOf lists (suc (stack_tasks st) + task_count a) b pb
   pub below : ArePiled lists st (reverse low)
 
-reverse_two : (items low1 low : List Part) (pa pb : Part) → items ≡ low1 ++ pb ∷ [] → low1 ≡ low ++ pa ∷ [] → reverse items ≡ pb ∷ pa ∷ reverse low
+reverse_two : (items low1 low : List Part) (pa pb : Part) → items ≡ low1 ++ pb ∷ []
+    → low1 ≡ low ++ pa ∷ [] → reverse items ≡ pb ∷ pa ∷ reverse low
 reverse_two items low1 low pa pb e f = rw (e, f) (grind (arith, common_steps))
 
-pub two_tops : (lists : List (List ℕ)) (st : List Term) (a b : Term) (items low1 low : List Part) (pa pb : Part) → ArePiled lists (b ∷ a ∷ st) (reverse items) → items ≡ low1 ++ pb ∷ [] → low1 ≡ low ++ pa ∷ [] → TwoTops lists st a b low pa pb
+pub two_tops : (lists : List (List ℕ)) (st : List Term) (a b : Term) (items low1 low : List Part) (pa pb : Part)
+    → ArePiled lists (b ∷ a ∷ st) (reverse items) → items ≡ low1 ++ pb ∷ [] → low1 ≡ low ++ pa ∷ [] → TwoTops lists st a b low pa pb
 two_tops lists st a b items low1 low pa pb h e f =
     let g = subst (ArePiled lists (b ∷ a ∷ st)) (reverse_two items low1 low pa pb e f) h in
     let n : suc (task_count a + stack_tasks st) ≡ suc (stack_tasks st) + task_count a = omega arith in
@@ -180,9 +208,11 @@ pub record Joined (lists : List (List ℕ)) (v : Task) (pa pb : Part) : Type 0 w
   pub second : IsRough lists pb
   pub joins : CanJoin pa v pb
 
-module _ (laws : SideLaws) (r0 r2 : List (List ℕ)) (st : List Term) (a b : Term) (items low1 low : List Part) (pa pb : Part) (number : ℕ) (v : Task)
+module _ (laws : SideLaws) (r0 r2 : List (List ℕ)) (st : List Term)
+    (a b : Term) (items low1 low : List Part) (pa pb : Part) (number : ℕ) (v : Task)
     (piled : ArePiled r0 (b ∷ a ∷ st) (reverse items)) (top1 : items ≡ low1 ++ pb ∷ []) (top2 : low1 ≡ low ++ pa ∷ []) where
-  pub joins_fit : v.share ≤ final_of a → v.share ≤ v.extra + initial_of b → total_of a + v.extra + total_of b ≤ most_total → Joined r0 v pa pb
+  pub joins_fit : v.share ≤ final_of a → v.share ≤ v.extra + initial_of b
+      → total_of a + v.extra + total_of b ≤ most_total → Joined r0 v pa pb
   joins_fit i o h =
       let t = two_tops r0 st a b items low1 low pa pb piled top1 top2 in
       let wa = end_within laws r0 (suc (stack_tasks st)) a pa t.first in
@@ -190,15 +220,23 @@ module _ (laws : SideLaws) (r0 r2 : List (List ℕ)) (st : List Term) (a b : Ter
       let ea = fin_is r0 (suc (stack_tasks st)) a pa t.first in
       let eb = initial_is r0 (suc (stack_tasks st) + task_count a) b pb t.second in
       let la = t.first.weight in let lb = t.second.weight in
-      record { first = t.first.rough; second = t.second.rough; joins = record { inputs = omega arith; outputs = omega arith; hill = omega arith } }
+      record {
+        first = t.first.rough;
+        second = t.second.rough;
+        joins = record { inputs = omega arith; outputs = omega arith; hill = omega arith };
+      }
 
   pub series_done : (p : Part) (items' : List Part) → v.share ≤ final_of a → number ≡ suc (stack_tasks (b ∷ a ∷ st)) → Extends r0 r2
-      → cut_of r2 p ≡ series_cut (cut_of r0 pa) number (hill_between pa v pb) (cut_of r0 pb) → IsRough r2 p → p.peak ≡ max pa.peak (max (hill_between pa v pb) pb.peak)
+      → cut_of r2 p ≡ series_cut (cut_of r0 pa) number (hill_between pa v pb) (cut_of r0 pb)
+      → IsRough r2 p → p.peak ≡ max pa.peak (max (hill_between pa v pb) pb.peak)
       → items' ≡ low ++ p ∷ [] → ArePiled r2 (series a v b ∷ st) (reverse items')
   series_done p items' ok tk kept cut r peak new =
       let t = two_tops r0 st a b items low1 low pa pb piled top1 top2 in
       let n : number ≡ suc (stack_tasks st) + (task_count a + task_count b) = omega arith in
-      let e : cut_of r2 p ≡ series_cut (cut_of r0 pa) (suc (stack_tasks st) + (task_count a + task_count b)) (hill_between pa v pb) (cut_of r0 pb) =
+      let e : cut_of r2 p
+      ≡ series_cut (cut_of r0 pa) (suc (stack_tasks st) + (task_count a + task_count b)) (hill_between pa v pb) (cut_of r0 pb) =
       cut ∙ ap (λ (k : ℕ). series_cut (cut_of r0 pa) k (hill_between pa v pb) (cut_of r0 pb)) n in
-      let f = series_of laws r0 r2 (suc (stack_tasks st)) a v b pa pb p t.first t.second e r (omega (arith, fin_is r0 (suc (stack_tasks st)) a pa t.first)) peak in
-      subst (λ (l : List Part). ArePiled r2 (series a v b ∷ st) (reverse l)) (sym new) (one_more r2 st (series a v b) low p f (piled_kept laws r0 r2 st (reverse low) t.below kept))
+      let f = series_of laws r0 r2 (suc (stack_tasks st)) a v b pa pb p t.first t.second e r
+      (omega (arith, fin_is r0 (suc (stack_tasks st)) a pa t.first)) peak in
+      subst (λ (l : List Part). ArePiled r2 (series a v b ∷ st) (reverse l)) (sym new)
+      (one_more r2 st (series a v b) low p f (piled_kept laws r0 r2 st (reverse low) t.below kept))

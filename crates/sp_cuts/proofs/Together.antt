@@ -35,7 +35,8 @@ pub record Splitting (yielded rest parts : List Part) (fs bs : List (List Seg)) 
   pub splits : AreSplit yielded fs bs start end low most
 
 pub splitting_starts : (parts all : List Part) → parts ≡ all → Splitting [] parts all [] [] 0 0 0 0
-splitting_starts parts all e = record { all = e; splits = record { front = refl; back = refl; start_is = refl; end_is = refl; low_is = refl; most_is = refl } }
+splitting_starts parts all e =
+    record { all = e; splits = record { front = refl; back = refl; start_is = refl; end_is = refl; low_is = refl; most_is = refl } }
 
 -- the next sums fit
 pub record Fit (start end low most : ℕ) (p : Part) : Type 0 where
@@ -52,7 +53,8 @@ module _ (yielded rest' rest parts : List Part) (fs bs : List (List Seg)) (start
   fits : (f : Part → ℕ) (n : ℕ) → n ≡ sum_by f yielded → sum_by f parts ≤ most_total → n + f p ≤ most_total
   fits f n e h = omega (arith, e, ap (sum_by f) together, sum_by-append f yielded (p ∷ rest), sum_by-cons f p rest)
 
-  pub splitting_fit : sum_by (λ p. p.initial) parts ≤ most_total → sum_by (λ p. p.fin) parts ≤ most_total → sum_by (λ p. p.least) parts ≤ most_total → sum_by (λ p. p.peak) parts ≤ most_total → Fit start end low most p
+  pub splitting_fit : sum_by (λ p. p.initial) parts ≤ most_total → sum_by (λ p. p.fin) parts ≤ most_total
+      → sum_by (λ p. p.least) parts ≤ most_total → sum_by (λ p. p.peak) parts ≤ most_total → Fit start end low most p
   splitting_fit a b c d = record {
     start_fits = fits (λ p. p.initial) start s.splits.start_is a;
     end_fits = fits (λ p. p.fin) end s.splits.end_is b;
@@ -63,7 +65,8 @@ module _ (yielded rest' rest parts : List Part) (fs bs : List (List Seg)) (start
   more : (f : Part → ℕ) (n : ℕ) → n ≡ sum_by f yielded → n + f p ≡ sum_by f (yielded ++ p ∷ [])
   more f n e = omega (arith, e, sum_by-append f yielded (p ∷ []))
 
-  pub splitting_on : Splitting (yielded ++ p ∷ []) rest parts (fs ++ p.front ∷ []) (bs ++ p.back ∷ []) (start + p.initial) (end + p.fin) (low + p.least) (most + p.peak)
+  pub splitting_on : Splitting (yielded ++ p ∷ []) rest parts (fs ++ p.front ∷ [])
+      (bs ++ p.back ∷ []) (start + p.initial) (end + p.fin) (low + p.least) (most + p.peak)
   splitting_on = record {
     all = append_assoc yielded (p ∷ []) rest ∙ together;
     splits = record {
@@ -76,7 +79,8 @@ module _ (yielded rest' rest parts : List Part) (fs bs : List (List Seg)) (start
     };
   }
 
-pub splitting_ends : (yielded rest parts : List Part) (fs bs : List (List Seg)) (start end low most : ℕ) → Splitting yielded rest parts fs bs start end low most → length rest ≡ 0 → AreSplit parts fs bs start end low most
+pub splitting_ends : (yielded rest parts : List Part) (fs bs : List (List Seg)) (start end low most : ℕ)
+    → Splitting yielded rest parts fs bs start end low most → length rest ≡ 0 → AreSplit parts fs bs start end low most
 splitting_ends yielded rest parts fs bs start end low most s e =
     let all : yielded ≡ parts = sym (append-nil yielded) ∙ ap (λ (l : List Part). yielded ++ l) (sym (nil_from_length rest e)) ∙ s.all in
     subst (λ (y : List Part). AreSplit y fs bs start end low most) all s.splits
@@ -123,7 +127,8 @@ pub record Ready (lists : List (List ℕ)) (fs bs : List (List Seg)) : Type 0 wh
   pub front_net : net_sum_all fs ≤ most_total
   pub back_net : net_sum_all bs ≤ most_total
 
-pub ready : SideLaws → (lists : List (List ℕ)) (parts : List Part) (fs bs : List (List Seg)) (start end low most : ℕ) → AreRough lists parts → sum_by (λ p. p.peak) parts ≤ most_total → AreSplit parts fs bs start end low most → Ready lists fs bs
+pub ready : SideLaws → (lists : List (List ℕ)) (parts : List Part) (fs bs : List (List Seg)) (start end low most : ℕ)
+    → AreRough lists parts → sum_by (λ p. p.peak) parts ≤ most_total → AreSplit parts fs bs start end low most → Ready lists fs bs
 ready laws lists parts fs bs start end low most h room s =
     let t = sums laws lists parts h in
     let a = t.front in let b = t.back in
@@ -134,7 +139,8 @@ ready laws lists parts fs bs start end low most h room s =
       back_net = omega (arith, ap net_sum_all s.back);
     }
 
-pub moves_of : (parts : List Part) (fs bs : List (List Seg)) (start end low most : ℕ) → AreSplit parts fs bs start end low most → (segment_count fs - longest fs) + (segment_count bs - longest bs) ≡ moves_in parts
+pub moves_of : (parts : List Part) (fs bs : List (List Seg)) (start end low most : ℕ)
+    → AreSplit parts fs bs start end low most → (segment_count fs - longest fs) + (segment_count bs - longest bs) ≡ moves_in parts
 moves_of parts fs bs start end low most s = rw (s.front, s.back) refl
 
 -- ---- what the cuts of the parts keep
@@ -148,7 +154,8 @@ each_rises d lists [] h = tt
 each_rises forward lists (p ∷ ps) h = (h.0.both.rising.front, each_rises forward lists ps h.1)
 each_rises backward lists (p ∷ ps) h = (h.0.both.rising.back, each_rises backward lists ps h.1)
 
-each_starts : (d : Direction) (lists : List (List ℕ)) (ps : List Part) → AreRough lists ps → AllStart (starts d (cuts_of lists ps)) (sides d (cuts_of lists ps))
+each_starts : (d : Direction) (lists : List (List ℕ)) (ps : List Part)
+    → AreRough lists ps → AllStart (starts d (cuts_of lists ps)) (sides d (cuts_of lists ps))
 each_starts d lists [] h = tt
 each_starts forward lists (p ∷ ps) h = (let m = h.0.both.meets.front in omega arith, each_starts forward lists ps h.1)
 each_starts backward lists (p ∷ ps) h = (let m = h.0.both.meets.back in omega arith, each_starts backward lists ps h.1)
@@ -156,7 +163,8 @@ each_starts backward lists (p ∷ ps) h = (let m = h.0.both.meets.back in omega 
 tops_le : (d : Direction) (lists : List (List ℕ)) (ps : List Part) → AreRough lists ps → tops d (cuts_of lists ps) ≤ sum_by (λ p. p.peak) ps
 tops_le d lists [] h = omega arith
 tops_le forward lists (p ∷ ps) h = let b = h.0.bound in omega (arith, tops_le forward lists ps h.1, sum_by-cons (λ (q : Part). q.peak) p ps)
-tops_le backward lists (p ∷ ps) h = let b = h.0.bound in omega (arith, tops_le backward lists ps h.1, sum_by-cons (λ (q : Part). q.peak) p ps)
+tops_le backward lists (p ∷ ps) h = let b = h.0.bound in
+    omega (arith, tops_le backward lists ps h.1, sum_by-cons (λ (q : Part). q.peak) p ps)
 
 -- ---- what the merged sides make
 
@@ -181,33 +189,43 @@ told lists (p ∷ ps) =
       low = omega (arith, r.low, sum_by-cons (λ (q : Part). q.least) p ps, sum_by-cons (λ (c : Cut). c.least) (cut_of lists p) cs);
     }
 
-same_numbers : (f b : List Run) (i i' e e' l l' : ℕ) → i ≡ i' → e ≡ e' → l ≡ l' → ◌≡◌ {A = Cut} (record { front = f; back = b; initial = i; fin = e; least = l }) (record { front = f; back = b; initial = i'; fin = e'; least = l' })
+same_numbers : (f b : List Run) (i i' e e' l l' : ℕ) → i ≡ i' → e ≡ e' → l ≡ l'
+    → ◌≡◌ {A = Cut} (record { front = f; back = b; initial = i; fin = e; least = l })
+    (record { front = f; back = b; initial = i'; fin = e'; least = l' })
 same_numbers f b i i' e e' l l' p q r = rw (p, q, r) refl
 
-module _ (laws : SideLaws) (r0 r1 r2 : List (List ℕ)) (parts : List Part) (fs bs : List (List Seg)) (start end low most : ℕ) (front back : List Seg)
-    (h : AreRough r0 parts) (s : AreSplit parts fs bs start end low most) (k01 : Extends r0 r1) (k12 : Extends r1 r2) (front_ropes : HaveRopes r1 front) (back_ropes : HaveRopes r2 back)
+module _ (laws : SideLaws) (r0 r1 r2 : List (List ℕ)) (parts : List Part)
+    (fs bs : List (List Seg)) (start end low most : ℕ) (front back : List Seg)
+    (h : AreRough r0 parts) (s : AreSplit parts fs bs start end low most) (k01 : Extends r0 r1)
+    (k12 : Extends r1 r2) (front_ropes : HaveRopes r1 front) (back_ropes : HaveRopes r2 back)
     (f : runs_of r1 front ≡ merge_runs (all_runs_of r0 fs)) (b : runs_of r2 back ≡ merge_runs (all_runs_of r1 bs)) where
   front_is : runs_of r2 front ≡ merge_runs (fronts (cuts_of r0 parts))
-  front_is = (laws.runs.stay r1 r2 front front_ropes k12).1 ∙ f ∙ ap (λ (l : List (List Seg)). merge_runs (all_runs_of r0 l)) s.front ∙ ap merge_runs (told r0 parts).front
+  front_is = (laws.runs.stay r1 r2 front front_ropes k12).1 ∙ f
+      ∙ ap (λ (l : List (List Seg)). merge_runs (all_runs_of r0 l)) s.front ∙ ap merge_runs (told r0 parts).front
 
   back_is : runs_of r2 back ≡ merge_runs (backs (cuts_of r0 parts))
-  back_is = b ∙ ap merge_runs (laws.all_stay r0 r1 bs (rw s.back (backs_ropes r0 parts h)) k01).1 ∙ ap (λ (l : List (List Seg)). merge_runs (all_runs_of r0 l)) s.back ∙ ap merge_runs (told r0 parts).back
+  back_is = b ∙ ap merge_runs (laws.all_stay r0 r1 bs (rw s.back (backs_ropes r0 parts h)) k01).1
+      ∙ ap (λ (l : List (List Seg)). merge_runs (all_runs_of r0 l)) s.back ∙ ap merge_runs (told r0 parts).back
 
-  pub together_cut : ◌≡◌ {A = Cut} (record { front = runs_of r2 front; back = runs_of r2 back; initial = start; fin = end; least = low }) (par_cut (cuts_of r0 parts))
+  pub together_cut : ◌≡◌ {A = Cut}
+      (record { front = runs_of r2 front; back = runs_of r2 back; initial = start; fin = end; least = low }) (par_cut (cuts_of r0 parts))
   together_cut =
       let cs = cuts_of r0 parts in
       same_cut (runs_of r2 front) (merge_runs (fronts cs)) (runs_of r2 back) (merge_runs (backs cs)) start end low front_is back_is
-      ∙ same_numbers (merge_runs (fronts cs)) (merge_runs (backs cs)) start (sum_by (λ c. c.initial) cs) end (sum_by (λ c. c.fin) cs) low (sum_by (λ c. c.least) cs)
+      ∙ same_numbers (merge_runs (fronts cs)) (merge_runs (backs cs)) start
+      (sum_by (λ c. c.initial) cs) end (sum_by (λ c. c.fin) cs) low (sum_by (λ c. c.least) cs)
       (s.start_is ∙ (told r0 parts).start) (s.end_is ∙ (told r0 parts).end) (s.low_is ∙ (told r0 parts).low)
 
-  pub together_rough : ((cs : List Cut) → AllByRecursion MeetsAtLeast cs → MeetsAtLeast (par_cut cs)) → ((cs : List Cut) → BothRise (par_cut cs))
+  pub together_rough : ((cs : List Cut) → AllByRecursion MeetsAtLeast cs → MeetsAtLeast (par_cut cs))
+      → ((cs : List Cut) → BothRise (par_cut cs))
       → ((d : Direction) (cs : List Cut) → AllRising (sides d cs) → AllStart (starts d cs) (sides d cs) → top_of d (par_cut cs) ≤ tops d cs)
       → sum_by (λ p. p.peak) parts ≤ most_total → IsRough r2 (part_with front back start end low most)
   together_rough meets rises high room =
       let cs = cuts_of r0 parts in
       let p = part_with front back start end low most in
       record {
-        both = sides_of r2 p (par_cut cs) together_cut (laws.runs.stay r1 r2 front front_ropes k12).0 back_ropes (meets cs (each_meets r0 parts h)) (rises cs);
+        both = sides_of r2 p (par_cut cs) together_cut
+            (laws.runs.stay r1 r2 front front_ropes k12).0 back_ropes (meets cs (each_meets r0 parts h)) (rises cs);
         bound = omega (
           arith,
           ap peak_of_cut together_cut,

@@ -51,12 +51,15 @@ module _ (graph : TaskGraph) (links : List Link) (nodes : List ℕ) (pieces : Li
       pub answer-terms : IsTerms (postfix (term_of_net (listed_task graph.tasks) (net_of x)))
       answer-terms = is-terms graph is system within led (net_of x) makes form
 
-      pub answer-system : (positions : List Position) (named : List ℕ) → positions ≡ postfix (term_of_net (listed_task graph.tasks) (net_of x)) → named ≡ names (net_of x)
+      pub answer-system : (positions : List Position) (named : List ℕ)
+          → positions ≡ postfix (term_of_net (listed_task graph.tasks) (net_of x)) → named ≡ names (net_of x)
           → HasSystem named (term_of positions) (completed_system graph)
       answer-system positions named p n =
-          let same : term_of positions ≡ term_of_net (listed_task graph.tasks) (net_of x) = ap term_of p ∙ term-same graph is system within led (net_of x) makes form in
+          let same : term_of positions ≡ term_of_net (listed_task graph.tasks) (net_of x) =
+          ap term_of p ∙ term-same graph is system within led (net_of x) makes form in
           subst (λ (xs : List ℕ). HasSystem xs (term_of positions) (completed_system graph)) (sym n)
-          (subst (λ (u : Term). HasSystem (names (net_of x)) u (completed_system graph)) (sym same) (has-system graph is system within led (net_of x) makes))
+          (subst (λ (u : Term). HasSystem (names (net_of x)) u (completed_system graph))
+          (sym same) (has-system graph is system within led (net_of x) makes))
 
   -- something else is left
   pub answer-rest : (pairs_of links ≡ (0, 0) ∷ [] → ⊥) → (ends : List (ℕ × ℕ)) → IsPermutation (pairs_of links) ends → IsSorted by_ends ends
@@ -64,11 +67,13 @@ module _ (graph : TaskGraph) (links : List Link) (nodes : List ℕ) (pieces : Li
   answer-rest other ends order rising = (
     record {
       reached = leads-trans (map ends_of (completed_arcs (length graph.tasks) graph.arcs)) (pairs_of links) ends o.row (in_order order);
-      irreducible = irreducible-order (pairs_of links) ends order (outcome-irreducible (completed_arcs (length graph.tasks) graph.arcs) links nodes pieces o);
+      irreducible = irreducible-order (pairs_of links) ends order
+          (outcome-irreducible (completed_arcs (length graph.tasks) graph.arcs) links nodes pieces o);
       not_single = λ e. other (one-order (pairs_of links) (subst (IsPermutation (pairs_of links)) e order));
       rising = rising;
     },
-    λ t xs parts has. none-has graph (outcome-none (completed_arcs (length graph.tasks) graph.arcs) links nodes pieces o other) t xs parts has,
+    λ t xs parts has.
+        none-has graph (outcome-none (completed_arcs (length graph.tasks) graph.arcs) links nodes pieces o other) t xs parts has,
   )
 
 -- ---- the term that is written
@@ -77,12 +82,15 @@ module _ (graph : TaskGraph) (links : List Link) (nodes : List ℕ) (pieces : Li
 pub record IsFound (graph : TaskGraph) (tasks : List Task) (pieces : List Piece) (root : ℕ) : Type 0 where
   pub among : All (IsAmong (length tasks)) (names (net_at (nets_of pieces) root))
   pub small : size_of (net_at (nets_of pieces) root) ≤ most_positions
-  pub terms : (positions : List Position) → positions ≡ postfix (term_of_net (listed_task tasks) (net_at (nets_of pieces) root)) → IsTerms positions
-  pub system : (positions : List Position) (named : List ℕ) → positions ≡ postfix (term_of_net (listed_task tasks) (net_at (nets_of pieces) root))
+  pub terms : (positions : List Position)
+      → positions ≡ postfix (term_of_net (listed_task tasks) (net_at (nets_of pieces) root)) → IsTerms positions
+  pub system : (positions : List Position) (named : List ℕ)
+      → positions ≡ postfix (term_of_net (listed_task tasks) (net_at (nets_of pieces) root))
       → named ≡ names (net_at (nets_of pieces) root) → HasSystem named (term_of positions) (completed_system graph)
 
 -- the code sees the graph, the links and the pieces through references
-pub found : (graph : TaskGraph) (arcs : List Arc) (seen links : List Link) (nodes : List ℕ) (given pieces : List Piece) (tasks : List Task) (x root : ℕ)
+pub found : (graph : TaskGraph) (arcs : List Arc) (seen links : List Link)
+    (nodes : List ℕ) (given pieces : List Piece) (tasks : List Task) (x root : ℕ)
     → IsGraph graph → IsSystem (completed_system graph)
     → All (IsArcWithin (length graph.tasks)) (completed_arcs (length graph.tasks) graph.arcs)
     → ((v : ℕ) → IsAmong (length graph.tasks) v → 1 ≤ count_by (is_into v) (completed_arcs (length graph.tasks) graph.arcs))

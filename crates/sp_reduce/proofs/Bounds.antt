@@ -1,5 +1,6 @@
 -- The positions of the term of a net: their limits, their sums, and how many they are.
-use Rattle.std.proofs.Common.{◌≡◌, ℕ, ◌+◌, ◌*◌, ◌≤◌, Bool, true, false, cond, leb, refl, ap, arith, List, [], ◌∷◌, ◌++◌, length, Option, Some, length-append}
+use Rattle.std.proofs.Common.{◌≡◌, ℕ, ◌+◌, ◌*◌, ◌≤◌, Bool, true, false, cond, leb, refl, ap, arith}
+use Rattle.std.proofs.Common.{List, [], ◌∷◌, ◌++◌, length, Option, Some, length-append}
 use Rattle.std.specs.List.{sum_by, All}
 use Rattle.std.proofs.lemmas.List.{append-nil}
 use Rattle.std.proofs.lemmas.List.Sums.{sum_by-cons, sum_by-append}
@@ -124,7 +125,8 @@ module _ (tasks : ℕ → Task) where
       } in
       (one, more one)
     where
-      more : AreBound (postfix ((shape_of tasks (series a v b)).whole)) (series a v b) → AreBound (postfix ((shape_of tasks (series a v b)).whole) ++ []) (series a v b)
+      more : AreBound (postfix ((shape_of tasks (series a v b)).whole)) (series a v b)
+          → AreBound (postfix ((shape_of tasks (series a v b)).whole) ++ []) (series a v b)
       more h = rw (append-nil (postfix ((shape_of tasks (series a v b)).whole))) h
   bounds (both a b) s w =
       let qa = all_postfix ((shape_of tasks a).among no_parts) in
@@ -140,7 +142,13 @@ module _ (tasks : ℕ → Task) where
         few = omega (arith, length-append qa qb, x.few, y.few);
       } in
       let split : all ≡ qa ++ qb = parts-front tasks a ((shape_of tasks b).among no_parts) in
-      let two : 2 ≤ n = omega (arith, counted-parts tasks a ((shape_of tasks b).among no_parts), counted-parts tasks b no_parts, parts-some a, parts-some b) in
+      let two : 2 ≤ n = omega (
+        arith,
+        counted-parts tasks a ((shape_of tasks b).among no_parts),
+        counted-parts tasks b no_parts,
+        parts-some a,
+        parts-some b,
+      ) in
       let here : AreBound all (both a b) = rw split inner in (
         record {
           within = All-append IsWithinLimits all (Par n ∷ []) here.within (All-cons IsWithinLimits (Par n) [] two (All-nil IsWithinLimits));

@@ -1,5 +1,6 @@
 -- The ends of the arcs of a term.
-use Rattle.std.proofs.Common.{◌≡◌, ℕ, ◌+◌, ◌<◌, ◌≤◌, inl, inr, Bool, true, false, cond, refl, subst, ap, arith, Option, Some, None, eqb, eq-eqb}
+use Rattle.std.proofs.Common.{◌≡◌, ℕ, ◌+◌, ◌<◌, ◌≤◌, inl, inr, Bool, true, false, cond}
+use Rattle.std.proofs.Common.{refl, subst, ap, arith, Option, Some, None, eqb, eq-eqb}
 use Rattle.std.specs.Prelude.{◌==◌}
 use Rattle.sp_reduce.specs.Nets.{Net, hold, series, both, times, IsDistinct, count, hits, pair, into, out_of, knows}
 use Rattle.lists.proofs.Orders.{le_or_lt}
@@ -60,7 +61,8 @@ distinct-one a b d v = omega (arith, d v)
 pub distinct-two : (a b : Net) → IsDistinct (both a b) → IsDistinct b
 distinct-two a b d v = omega (arith, d v)
 
-pub count-le : (g h : Option ℕ → Option ℕ → ℕ) → ((p q : Option ℕ) → g p q ≤ h p q) → (from to : Option ℕ) (t : Net) → count g from to t ≤ count h from to t
+pub count-le : (g h : Option ℕ → Option ℕ → ℕ) → ((p q : Option ℕ) → g p q ≤ h p q)
+    → (from to : Option ℕ) (t : Net) → count g from to t ≤ count h from to t
 count-le g h each from to (hold n) = each from to
 count-le g h each from to (series a v b) = omega (arith, count-le g h each from (Some v) a, count-le g h each (Some v) to b)
 count-le g h each from to (both a b) = omega (arith, count-le g h each from to a, count-le g h each from to b)
@@ -114,7 +116,8 @@ into-task v from to (series a w b) h = split 1 (times v a)
     (λ k. omega (arith, into-task v from (Some w) a k))
     (λ k. split 1 (times v b)
     (λ l. omega (arith, into-task v (Some w) to b l))
-    (λ l. let same = hits-same (Some w) (Some v) (omega arith) in omega (arith, subst (λ o. 1 ≤ count (into o) from (Some w) a) same (into-end from (Some w) a))))
+    (λ l. let same = hits-same (Some w) (Some v) (omega arith) in
+    omega (arith, subst (λ o. 1 ≤ count (into o) from (Some w) a) same (into-end from (Some w) a))))
 into-task v from to (both a b) h = split 1 (times v a)
     (λ k. omega (arith, into-task v from to a k))
     (λ k. omega (arith, into-task v from to b (omega arith)))
@@ -125,7 +128,8 @@ out-task v from to (series a w b) h = split 1 (times v a)
     (λ k. omega (arith, out-task v from (Some w) a k))
     (λ k. split 1 (times v b)
     (λ l. omega (arith, out-task v (Some w) to b l))
-    (λ l. let same = hits-same (Some w) (Some v) (omega arith) in omega (arith, subst (λ o. 1 ≤ count (out_of o) (Some w) to b) same (out-start (Some w) to b))))
+    (λ l. let same = hits-same (Some w) (Some v) (omega arith) in
+    omega (arith, subst (λ o. 1 ≤ count (out_of o) (Some w) to b) same (out-start (Some w) to b))))
 out-task v from to (both a b) h = split 1 (times v a)
     (λ k. omega (arith, out-task v from to a k))
     (λ k. omega (arith, out-task v from to b (omega arith)))

@@ -1,5 +1,6 @@
 -- The net that makes the completed graph is a term with its system; and where no net does, no term has it.
-use Rattle.std.proofs.Common.{◌≡◌, ◌≢◌, ℕ, zero, suc, ◌+◌, ◌-◌, ◌<◌, ◌≤◌, Bool, true, false, cond, eqb, eq-eqb, refl, sym, ap, subst, arith, ◌∙◌, List, [], ◌∷◌, ◌++◌, length, map, get_or, take, Option, Some, None, inl, inr}
+use Rattle.std.proofs.Common.{◌≡◌, ◌≢◌, ℕ, zero, suc, ◌+◌, ◌-◌, ◌<◌, ◌≤◌, Bool, true, false, cond, eqb, eq-eqb, refl, sym, ap}
+use Rattle.std.proofs.Common.{subst, arith, ◌∙◌, List, [], ◌∷◌, ◌++◌, length, map, get_or, take, Option, Some, None, inl, inr}
 use Rattle.std.specs.Prelude.{IsPermutation}
 use Rattle.std.specs.List.{sum_by, count_by, All, range_with_len, position_or_len}
 use Rattle.std.proofs.lemmas.List.{length-map, length-append, get_or-take, length-take-le}
@@ -19,7 +20,8 @@ use Rattle.sp_terms.specs.SystemOfTerm.{task_count, task_count_of_parts, tasks_o
 use Rattle.sp_terms.specs.Postfix.{Denotes, postfix}
 use Rattle.sp_terms.specs.Values.{stack_from, last_term, term_of, Leaves, IsTerms}
 use Rattle.graphs.specs.declared.arc.Arc.{Arc}
-use Rattle.graphs.specs.Graph.{TaskGraph, IsAmong, IsArcWithin, IsGraph, is_into, item_of_arc, end_of, listed_task, completed_arcs, completed_system}
+use Rattle.graphs.specs.Graph.{TaskGraph, IsAmong, IsArcWithin, IsGraph, is_into, item_of_arc}
+use Rattle.graphs.specs.Graph.{end_of, listed_task, completed_arcs, completed_system}
 use Rattle.sp_reduce.specs.Nets.{Net, hold, series, both, names, times, arcs, hits, into}
 use Rattle.sp_reduce.specs.NetGraphs.{arc_weight, counted, Makes}
 use Rattle.sp_reduce.specs.Reduced.{HasSystem, HasParts}
@@ -47,7 +49,8 @@ rep-add (suc a) b m = let e : suc a + b ≡ suc (a + b) = omega arith in ap (λ 
 
 sum-each : (g h : ℕ → ℕ) (xs : List ℕ) → ((i : ℕ) → i < length xs → g (get_or xs i 0) ≡ h (get_or xs i 0)) → sum_by g xs ≡ sum_by h xs
 sum-each g h [] each = refl
-sum-each g h (x ∷ xs) each = omega (arith, sum_by-cons g x xs, sum_by-cons h x xs, each 0 (omega arith), sum-each g h xs (λ i lt. each (suc i) (omega (arith, lt))))
+sum-each g h (x ∷ xs) each =
+    omega (arith, sum_by-cons g x xs, sum_by-cons h x xs, each 0 (omega arith), sum-each g h xs (λ i lt. each (suc i) (omega (arith, lt))))
 
 sum-add : (g h : ℕ → ℕ) (xs : List ℕ) → sum_by (λ v. g v + h v) xs ≡ sum_by g xs + sum_by h xs
 sum-add g h [] = refl
@@ -78,14 +81,16 @@ module _ (f : ℕ → ℕ) (x : ℕ) where
       elim (cases_Bool (eqb x a)) [
         | inl same ↦ (let is : x ≡ a = eqb-true x a same in
             let rest = sum-zero g (range_with_len (a + 1) n)
-            (λ i short. let at = get_or-range_with_len (a + 1) n i 0 (omega (arith, short, length-range_with_len (a + 1) n)) in off (get_or (range_with_len (a + 1) n) i 0) (λ z. omega (arith, z, is, at))) in
+            (λ i short. let at = get_or-range_with_len (a + 1) n i 0 (omega (arith, short, length-range_with_len (a + 1) n)) in
+            off (get_or (range_with_len (a + 1) n) i 0) (λ z. omega (arith, z, is, at))) in
             omega (arith, e, rest, ap (λ (v : ℕ). rep (cond (eqb x v) 1 0) (f v)) is, on))
         | inr other ↦ (let ne : x ≢ a = λ z. absurd (cc (sym other ∙ eq-eqb x a z)) in
             omega (arith, e, off a ne, single (a + 1) n (omega (arith, ne)) (omega arith)))
       ]
 
 -- a sum over numbers from 1 to n, by how often each stands
-by-number : (f : ℕ → ℕ) (n : ℕ) (xs : List ℕ) → All (IsAmong n) xs → sum_by f xs ≡ sum_by (λ v. rep (count_by (λ u. eqb u v) xs) (f v)) (range_with_len 1 n)
+by-number : (f : ℕ → ℕ) (n : ℕ) (xs : List ℕ) → All (IsAmong n) xs
+    → sum_by f xs ≡ sum_by (λ v. rep (count_by (λ u. eqb u v) xs) (f v)) (range_with_len 1 n)
 unfolding rep
 by-number f n [] h = sym (sum-zero (λ v. 0) (range_with_len 1 n) (λ i lt. refl))
 by-number f n (x ∷ xs) h =
@@ -94,11 +99,20 @@ by-number f n (x ∷ xs) h =
     let rest : ℕ → ℕ = λ v. rep (count_by (λ u. eqb u v) xs) (f v) in
     let each = sum-each (λ v. rep (count_by (λ u. eqb u v) (x ∷ xs)) (f v)) (λ v. one v + rest v) (range_with_len 1 n)
     (λ i lt. let v = get_or (range_with_len 1 n) i 0 in
-    ap (λ (k : ℕ). rep k (f v)) (sum_by-cons (λ u. cond {A = ℕ} (eqb u v) 1 0) x xs) ∙ rep-add (cond (eqb x v) 1 0) (count_by (λ u. eqb u v) xs) (f v)) in
-    omega (arith, sum_by-cons f x xs, by-number f n xs (All-tail (IsAmong n) x xs h), each, sum-add one rest (range_with_len 1 n), single f x 1 n among.0 (omega (arith, among.1)))
+    ap (λ (k : ℕ). rep k (f v)) (sum_by-cons (λ u. cond {A = ℕ} (eqb u v) 1 0) x xs)
+    ∙ rep-add (cond (eqb x v) 1 0) (count_by (λ u. eqb u v) xs) (f v)) in
+    omega (
+      arith,
+      sum_by-cons f x xs,
+      by-number f n xs (All-tail (IsAmong n) x xs h),
+      each,
+      sum-add one rest (range_with_len 1 n),
+      single f x 1 n among.0 (omega (arith, among.1)),
+    )
 
 -- each number once
-once-sum : (f : ℕ → ℕ) (n : ℕ) (xs : List ℕ) → All (IsAmong n) xs → ((v : ℕ) → IsAmong n v → count_by (λ u. eqb u v) xs ≡ 1) → sum_by f xs ≡ sum_by f (range_with_len 1 n)
+once-sum : (f : ℕ → ℕ) (n : ℕ) (xs : List ℕ) → All (IsAmong n) xs
+    → ((v : ℕ) → IsAmong n v → count_by (λ u. eqb u v) xs ≡ 1) → sum_by f xs ≡ sum_by f (range_with_len 1 n)
 unfolding rep
 once-sum f n xs h once =
     by-number f n xs h ∙ sum-each (λ v. rep (count_by (λ u. eqb u v) xs) (f v)) f (range_with_len 1 n)
@@ -107,11 +121,13 @@ once-sum f n xs h once =
     let one = once v (omega (arith, at), omega (arith, at, lt, length-range_with_len 1 n)) in
     ap (λ (k : ℕ). rep k (f v)) one ∙ omega arith)
 
-range-sum : (g : ℕ → ℕ) (h : Task → ℕ) (a : ℕ) (tasks : List Task) (d : Task) → ((i : ℕ) → i < length tasks → g (a + i) ≡ h (get_or tasks i d)) → sum_by g (range_with_len a (length tasks)) ≡ sum_by h tasks
+range-sum : (g : ℕ → ℕ) (h : Task → ℕ) (a : ℕ) (tasks : List Task) (d : Task)
+    → ((i : ℕ) → i < length tasks → g (a + i) ≡ h (get_or tasks i d)) → sum_by g (range_with_len a (length tasks)) ≡ sum_by h tasks
 range-sum g h a [] d each = refl
 range-sum g h a (t ∷ ts) d each =
     let here : g a ≡ h t = (let e : a ≡ a + 0 = omega arith in ap g e) ∙ each 0 (omega arith) in
-    let rest = range-sum g h (a + 1) ts d (λ i lt. (let e : a + 1 + i ≡ a + suc i = omega arith in ap g e) ∙ each (suc i) (omega (arith, lt))) in
+    let rest =
+    range-sum g h (a + 1) ts d (λ i lt. (let e : a + 1 + i ≡ a + suc i = omega arith in ap g e) ∙ each (suc i) (omega (arith, lt))) in
     omega (arith, sum_by-cons g a (range_with_len (a + 1) (length ts)), sum_by-cons h t ts, here, rest)
 
 ones-length : {X : Type 0} (xs : List X) → sum_by (λ x. 1) xs ≡ length xs
@@ -124,8 +140,16 @@ count-names : (v : ℕ) (t : Net) → count_by (λ u. eqb u v) (names t) ≡ tim
 count-names v (hold n) = refl
 count-names v (series a w b) =
     let f : ℕ → ℕ = λ u. cond (eqb u v) 1 0 in
-    omega (arith, sum_by-append f (names a) (names b ++ w ∷ []), sum_by-append f (names b) (w ∷ []), sum_by-cons f w [], count-names v a, count-names v b)
-count-names v (both a b) = omega (arith, sum_by-append (λ u. cond {A = ℕ} (eqb u v) 1 0) (names a) (names b), count-names v a, count-names v b)
+    omega (
+      arith,
+      sum_by-append f (names a) (names b ++ w ∷ []),
+      sum_by-append f (names b) (w ∷ []),
+      sum_by-cons f w [],
+      count-names v a,
+      count-names v b,
+    )
+count-names v (both a b) =
+    omega (arith, sum_by-append (λ u. cond {A = ℕ} (eqb u v) 1 0) (names a) (names b), count-names v a, count-names v b)
 
 into-counts : (v : ℕ) → 1 ≤ v → (xs : List Arc) → counted (into (Some v)) (map item_of_arc xs) ≡ count_by (is_into v) xs
 into-counts v some [] = refl
@@ -144,7 +168,9 @@ some-end n v [] h some = absurd (omega arith)
 some-end n v (x ∷ xs) h some =
     let e = sum_by-cons (λ (i : Item). into (Some v) i.from i.to) (item_of_arc x) (map item_of_arc xs) in
     split 1 (hits (end_of x.to) (Some v))
-    (λ hit. let k = end-is x.to v (hits-same (end_of x.to) (Some v) hit) in let w = All-head (IsArcWithin n) x xs h in (k.1, omega (arith, k.0, w.to)))
+    (λ hit. let k = end-is x.to v (hits-same (end_of x.to) (Some v) hit) in
+    let w = All-head (IsArcWithin n) x xs h in
+    (k.1, omega (arith, k.0, w.to)))
     (λ no. some-end n v xs (All-tail (IsArcWithin n) x xs h) (omega (arith, e, some, no)))
 
 -- ---- sizes of items
@@ -158,11 +184,23 @@ named-size (Some u) v n = go (eqb u v) where
 
 inputs-sum : (v : ℕ) (xs : List Item) → sum_by (arc_weight (size_in (Some v))) xs ≡ size_where (is_input v) xs
 inputs-sum v [] = refl
-inputs-sum v (x ∷ xs) = omega (arith, sum_by-cons (arc_weight (size_in (Some v))) x xs, sum_by-cons (systems.size_if (is_input v)) x xs, named-size x.to v x.size, inputs-sum v xs)
+inputs-sum v (x ∷ xs) = omega (
+  arith,
+  sum_by-cons (arc_weight (size_in (Some v))) x xs,
+  sum_by-cons (systems.size_if (is_input v)) x xs,
+  named-size x.to v x.size,
+  inputs-sum v xs,
+)
 
 outputs-sum : (v : ℕ) (xs : List Item) → sum_by (arc_weight (size_out (Some v))) xs ≡ size_where (is_output v) xs
 outputs-sum v [] = refl
-outputs-sum v (x ∷ xs) = omega (arith, sum_by-cons (arc_weight (size_out (Some v))) x xs, sum_by-cons (systems.size_if (is_output v)) x xs, named-size x.from v x.size, outputs-sum v xs)
+outputs-sum v (x ∷ xs) = omega (
+  arith,
+  sum_by-cons (arc_weight (size_out (Some v))) x xs,
+  sum_by-cons (systems.size_if (is_output v)) x xs,
+  named-size x.from v x.size,
+  outputs-sum v xs,
+)
 
 data-sum : (xs : List Item) → sum_by (arc_weight (λ p n q. n)) xs ≡ sum_by item_size xs
 data-sum [] = refl
@@ -199,13 +237,19 @@ module _ (graph : TaskGraph) (is : IsGraph graph) (system : IsSystem (completed_
   known : (v : ℕ) → IsAmong (length graph.tasks) v → times v t ≡ 1
   known v among =
       let fits = makes-fits t (completed_system graph).items m in
-      let some = into-known (Some v) None None t (omega (arith, fits.ends (into (Some v)), into-counts v among.0 (completed_arcs (length graph.tasks) graph.arcs), led v among)) in
+      let some = into-known (Some v) None None t (omega (
+        arith,
+        fits.ends (into (Some v)),
+        into-counts v among.0 (completed_arcs (length graph.tasks) graph.arcs),
+        led v among,
+      )) in
       omega (arith, some, m.distinct v)
 
   pub among-of : (v : ℕ) → 1 ≤ times v t → IsAmong (length graph.tasks) v
   among-of v some =
       let fits = makes-fits t (completed_system graph).items m in
-      some-end (length graph.tasks) v (completed_arcs (length graph.tasks) graph.arcs) within (omega (arith, fits.ends (into (Some v)), into-task v None None t some))
+      some-end (length graph.tasks) v (completed_arcs (length graph.tasks) graph.arcs) within
+      (omega (arith, fits.ends (into (Some v)), into-task v None None t some))
 
   pub names-among : All (IsAmong (length graph.tasks)) (names t)
   names-among i d lt =
@@ -227,7 +271,9 @@ module _ (graph : TaskGraph) (is : IsGraph graph) (system : IsSystem (completed_
     tasks = (tasks-are (listed_task graph.tasks) t).0;
     items = subst (λ (xs : List Item). IsPermutation xs (completed_system graph).items)
         (sym (items-are (listed_task graph.tasks) (name_in (names t)) 1 None None t (λ k lt. place k)).0)
-        (items-weighed (arcs None None t) (completed_system graph).items (λ f. sym (weigh-arcs (λ p n q. f (record { from = p; size = n; to = q })) None None t) ∙ m.arcs (λ p n q. f (record { from = p; size = n; to = q }))));
+        (items-weighed (arcs None None t) (completed_system graph).items
+        (λ f. sym (weigh-arcs (λ p n q. f (record { from = p; size = n; to = q })) None None t)
+        ∙ m.arcs (λ p n q. f (record { from = p; size = n; to = q }))));
   }
     where
       place : (k : ℕ) → name_in (names t) (1 + k) ≡ get_or (names t) k 0
@@ -245,7 +291,8 @@ module _ (graph : TaskGraph) (is : IsGraph graph) (system : IsSystem (completed_
 
   positions-bound : AreBound (listed_task graph.tasks) (postfix (term_of_net (listed_task graph.tasks) t)) t
   positions-bound =
-      (bounds (listed_task graph.tasks) t (small None None t (m.arcs (λ p n q. bad n) ∙ none-bad (completed_system graph) (completed_system graph).items system.items))
+      (bounds (listed_task graph.tasks) t
+      (small None None t (m.arcs (λ p n q. bad n) ∙ none-bad (completed_system graph) (completed_system graph).items system.items))
       (λ v some. let among = among-of v some in
       is.tasks (v - 1) (record { extra = 0; share = 0; time = 0 }) (omega (arith, among.0, among.1)))).0
 
@@ -261,10 +308,12 @@ module _ (graph : TaskGraph) (is : IsGraph graph) (system : IsSystem (completed_
   extras-are =
       names-sum (λ v. (listed_task graph.tasks v).extra)
       ∙ range-sum (λ v. (listed_task graph.tasks v).extra) extra_size 1 graph.tasks (record { extra = 0; share = 0; time = 0 })
-      (λ i lt. let e : 1 + i - 1 ≡ i = omega arith in ap (λ (k : ℕ). (get_or graph.tasks k (record { extra = 0; share = 0; time = 0 })).extra) e)
+      (λ i lt. let e : 1 + i - 1 ≡ i = omega arith in
+      ap (λ (k : ℕ). (get_or graph.tasks k (record { extra = 0; share = 0; time = 0 })).extra) e)
 
   names-count : length (names t) ≡ length graph.tasks
-  names-count = sym (ones-length (names t)) ∙ names-sum (λ v. 1) ∙ ones-length (range_with_len 1 (length graph.tasks)) ∙ length-range_with_len 1 (length graph.tasks)
+  names-count = sym (ones-length (names t)) ∙ names-sum (λ v. 1)
+      ∙ ones-length (range_with_len 1 (length graph.tasks)) ∙ length-range_with_len 1 (length graph.tasks)
 
   module _ (form : (u : Term) → Denotes (postfix u) u) where
     pub term-same : term_of (postfix (term_of_net (listed_task graph.tasks) t)) ≡ term_of_net (listed_task graph.tasks) t
@@ -280,7 +329,13 @@ module _ (graph : TaskGraph) (is : IsGraph graph) (system : IsSystem (completed_
           within = b.within;
           few = omega (arith, b.few, holds-are, is.few_arcs);
           few_tasks = omega (arith, b.tasks_are, names-count, is.few_tasks);
-          total = omega (arith, b.sizes, extras-are, sym (weigh-data None None t) ∙ m.arcs (λ p n q. n) ∙ data-sum (completed_system graph).items, system.total);
+          total = omega (
+            arith,
+            b.sizes,
+            extras-are,
+            sym (weigh-data None None t) ∙ m.arcs (λ p n q. n) ∙ data-sum (completed_system graph).items,
+            system.total,
+          );
         })
 
 -- ---- no term
@@ -288,7 +343,13 @@ module _ (graph : TaskGraph) (is : IsGraph graph) (system : IsSystem (completed_
 mutual
   term-tasks : (t : Term) → length (tasks_of_term t) ≡ task_count t
   term-tasks (terms.hold n) = refl
-  term-tasks (terms.series a v b) = omega (arith, length-append (tasks_of_term a) (tasks_of_term b ++ v ∷ []), length-append (tasks_of_term b) (v ∷ []), term-tasks a, term-tasks b)
+  term-tasks (terms.series a v b) = omega (
+    arith,
+    length-append (tasks_of_term a) (tasks_of_term b ++ v ∷ []),
+    length-append (tasks_of_term b) (v ∷ []),
+    term-tasks a,
+    term-tasks b,
+  )
   term-tasks (terms.par ts) = parts-tasks ts
 
   parts-tasks : (ts : Parts) → length (tasks_of_parts ts) ≡ task_count_of_parts ts
@@ -296,10 +357,12 @@ mutual
   parts-tasks (part t ts) = omega (arith, length-append (tasks_of_term t) (tasks_of_parts ts), term-tasks t, parts-tasks ts)
 
 -- names that stand once each have an inverse
-inverse : (n : ℕ) (xs : List ℕ) → All (IsAmong n) xs → ((v : ℕ) → IsAmong n v → count_by (λ u. eqb u v) xs ≡ 1) → (i : ℕ) → i < length xs → position_or_len (λ u. eqb u (get_or xs i 0)) xs ≡ i
+inverse : (n : ℕ) (xs : List ℕ) → All (IsAmong n) xs → ((v : ℕ) → IsAmong n v → count_by (λ u. eqb u v) xs ≡ 1)
+    → (i : ℕ) → i < length xs → position_or_len (λ u. eqb u (get_or xs i 0)) xs ≡ i
 inverse n xs h once i lt =
     let v = get_or xs i 0 in
-    position_or_len_is (λ u. eqb u v) xs i 0 (omega (arith, lt)) (λ k less. ne_eqb (get_or xs k 0) v (twice k less)) (λ short. eq-eqb v v refl)
+    position_or_len_is (λ u. eqb u v) xs i 0 (omega (arith, lt))
+    (λ k less. ne_eqb (get_or xs k 0) v (twice k less)) (λ short. eq-eqb v v refl)
   where
     twice : (k : ℕ) → k < i → get_or xs k 0 ≡ get_or xs i 0 → ⊥
     twice k less same =
@@ -311,9 +374,11 @@ inverse n xs h once i lt =
         let own : f v ≡ 1 = rw (eq-eqb v v refl) refl in
         omega (arith, once v (h i 0 lt), first, both_of, at, own)
 
-pub none-has : (graph : TaskGraph) → ((t : Net) → Makes t (completed_system graph).items → ⊥) → (t : Term) (names : List ℕ) → HasParts t → HasSystem names t (completed_system graph) → ⊥
+pub none-has : (graph : TaskGraph) → ((t : Net) → Makes t (completed_system graph).items → ⊥)
+    → (t : Term) (names : List ℕ) → HasParts t → HasSystem names t (completed_system graph) → ⊥
 none-has graph none t xs parts h =
-    let count : length xs ≡ task_count t = sym (length-map xs (systems.task_at (completed_system graph))) ∙ ap length (sym h.tasks) ∙ term-tasks t in
+    let count : length xs ≡ task_count t =
+    sym (length-map xs (systems.task_at (completed_system graph))) ∙ ap length (sym h.tasks) ∙ term-tasks t in
     none (named (name_in xs) 1 t)
     (items-made (name_in xs) (λ v. suc (position_or_len (λ u. eqb u v) xs)) t
     (λ k low short. back k low (omega (arith, short, count))) parts (completed_system graph).items h.items)

@@ -1,5 +1,6 @@
 -- The steps of the reduction keep a forest.
-use Rattle.std.proofs.Common.{◌≡◌, ◌≢◌, ℕ, ◌+◌, ◌<◌, Bool, true, false, cond, refl, sym, subst, ap, arith, ◌∙◌, List, [], ◌∷◌, length, Option, Some, None, get_or, set}
+use Rattle.std.proofs.Common.{◌≡◌, ◌≢◌, ℕ, ◌+◌, ◌<◌, Bool, true, false, cond, refl, sym, subst, ap}
+use Rattle.std.proofs.Common.{arith, ◌∙◌, List, [], ◌∷◌, length, Option, Some, None, get_or, set}
 use Rattle.std.specs.List.{sum_by}
 use Rattle.std.proofs.lemmas.List.{get_or-set_other, length-set}
 use Rattle.std.proofs.lemmas.List.Sums.{sum_by-cons, sum_by-set}
@@ -15,38 +16,47 @@ pub arcs-total : (f : Option ℕ → ℕ → Option ℕ → ℕ) (es : List Edge
 arcs-total f [] = refl
 arcs-total f (e ∷ es) = omega (arith, arcs-total f es, here e.alive, sum_by-cons (edge_weight (λ p n q. f p 0 q)) e es)
   where
-    here : (b : Bool) → sum_by (arc_weight f) (cond b (arc e.from 0 e.to ∷ arcs_of es) (arcs_of es)) ≡ cond b (f e.from 0 e.to) 0 + sum_by (arc_weight f) (arcs_of es)
+    here : (b : Bool)
+        → sum_by (arc_weight f) (cond b (arc e.from 0 e.to ∷ arcs_of es) (arcs_of es))
+        ≡ cond b (f e.from 0 e.to) 0 + sum_by (arc_weight f) (arcs_of es)
     here true = sum_by-cons (arc_weight f) (arc e.from 0 e.to) (arcs_of es)
     here false = omega arith
 
 -- ---- two arcs become one
 
 module _ (es : List Edge) (i j : ℕ) (p q r s : Option ℕ) (m n : Net) (lt : i < length es) (lt_j : j < length es) (ne : i ≢ j)
-    (at_i : get_or es i dead ≡ record { alive = true; from = p; net = m; to = q }) (at_j : get_or es j dead ≡ record { alive = true; from = r; net = n; to = s }) where
+    (at_i : get_or es i dead ≡ record { alive = true; from = p; net = m; to = q })
+    (at_j : get_or es j dead ≡ record { alive = true; from = r; net = n; to = s }) where
   pub was : (f : Option ℕ → Net → Option ℕ → ℕ) → total f es ≡ f p m q + (f r n s + total f (set (set es i dead) j dead))
   was f =
       let a = sum_by-set (edge_weight f) es i dead dead lt in
       let b = sum_by-set (edge_weight f) (set es i dead) j dead dead (omega (arith, length-set es i dead)) in
-      let c : get_or (set es i dead) j dead ≡ record { alive = true; from = r; net = n; to = s } = get_or-set_other es i j dead dead (λ z. ne (sym z)) ∙ at_j in
+      let c : get_or (set es i dead) j dead ≡ record { alive = true; from = r; net = n; to = s } =
+      get_or-set_other es i j dead dead (λ z. ne (sym z)) ∙ at_j in
       omega (arith, a, b, ap (edge_weight f) at_i, ap (edge_weight f) c)
 
   pub is : (f : Option ℕ → Net → Option ℕ → ℕ) (x : Option ℕ) (k : Net) (y : Option ℕ)
-      → total f (set (set es i (record { alive = true; from = x; net = k; to = y })) j dead) ≡ f x k y + total f (set (set es i dead) j dead)
+      → total f (set (set es i (record { alive = true; from = x; net = k; to = y })) j dead)
+      ≡ f x k y + total f (set (set es i dead) j dead)
   is f x k y =
       let new : Edge = record { alive = true; from = x; net = k; to = y } in
       let a = sum_by-set (edge_weight f) es i new dead lt in
       let b = sum_by-set (edge_weight f) (set es i new) j dead dead (omega (arith, length-set es i new)) in
-      let c : get_or (set es i new) j dead ≡ record { alive = true; from = r; net = n; to = s } = get_or-set_other es i j new dead (λ z. ne (sym z)) ∙ at_j in
+      let c : get_or (set es i new) j dead ≡ record { alive = true; from = r; net = n; to = s } =
+      get_or-set_other es i j new dead (λ z. ne (sym z)) ∙ at_j in
       omega (arith, a, b, was f, ap (edge_weight f) at_i, ap (edge_weight f) c)
 
   module _ (graph : List Item) (forest : IsNetForest graph es) where
     -- the same ends
-    pub forest-parallel : p ≡ r → q ≡ s → IsNetForest graph (set (set es i (record { alive = true; from = p; net = both m n; to = q })) j dead)
+    pub forest-parallel : p ≡ r → q ≡ s
+        → IsNetForest graph (set (set es i (record { alive = true; from = p; net = both m n; to = q })) j dead)
     forest-parallel e e' =
         let after = set (set es i (record { alive = true; from = p; net = both m n; to = q })) j dead in
         let gone = set (set es i dead) j dead in
         let two : (f : Option ℕ → Net → Option ℕ → ℕ) → total f es ≡ f p m q + (f p n q + total f gone) =
-        λ f. was f ∙ subst (λ x. f p m q + (f x n s + total f gone) ≡ f p m q + (f p n q + total f gone)) e (subst (λ x. f p m q + (f p n x + total f gone) ≡ f p m q + (f p n q + total f gone)) e' refl) in
+        λ f. was f
+        ∙ subst (λ x. f p m q + (f x n s + total f gone) ≡ f p m q + (f p n q + total f gone)) e
+        (subst (λ x. f p m q + (f p n x + total f gone) ≡ f p m q + (f p n q + total f gone)) e' refl) in
         record {
           whole = λ f. omega (arith, is (λ x k y. weigh f x y k) p (both m n) q, two (λ x k y. weigh f x y k), forest.whole f);
           once = λ v. omega (arith, is (λ x k y. times v k) p (both m n) q, two (λ x k y. times v k), forest.once v);
@@ -65,14 +75,28 @@ module _ (es : List Edge) (i j : ℕ) (p q r s : Option ℕ) (m n : Net) (lt : i
                 two = 0;
                 new = 0;
                 rest = arcs_of gone;
-                was = λ f. omega (arith, arcs-total f es, arcs-total f gone, two (λ x k y. f x 0 y), sum_by-cons (arc_weight f) (arc p 0 q) (arc p 0 q ∷ arcs_of gone), sum_by-cons (arc_weight f) (arc p 0 q) (arcs_of gone));
-                is = λ f. omega (arith, arcs-total f after, arcs-total f gone, is (λ x k y. f x 0 y) p (both m n) q, sum_by-cons (arc_weight f) (arc p 0 q) (arcs_of gone));
+                was = λ f. omega (
+                  arith,
+                  arcs-total f es,
+                  arcs-total f gone,
+                  two (λ x k y. f x 0 y),
+                  sum_by-cons (arc_weight f) (arc p 0 q) (arc p 0 q ∷ arcs_of gone),
+                  sum_by-cons (arc_weight f) (arc p 0 q) (arcs_of gone),
+                );
+                is = λ f. omega (
+                  arith,
+                  arcs-total f after,
+                  arcs-total f gone,
+                  is (λ x k y. f x 0 y) p (both m n) q,
+                  sum_by-cons (arc_weight f) (arc p 0 q) (arcs_of gone),
+                );
               } in
               forth-parallel (arcs_of es) (arcs_of after) par u.0 u.1;
         }
 
     -- one arc into a task and one out of it
-    pub forest-series : (v : ℕ) → q ≡ Some v → r ≡ Some v → total (λ x k y. hits y (Some v)) es ≡ 1 → total (λ x k y. hits x (Some v)) es ≡ 1
+    pub forest-series : (v : ℕ) → q ≡ Some v → r ≡ Some v
+        → total (λ x k y. hits y (Some v)) es ≡ 1 → total (λ x k y. hits x (Some v)) es ≡ 1
         → IsNetForest graph (set (set es i (record { alive = true; from = p; net = series m v n; to = s })) j dead)
     forest-series v e e' one_in one_out =
         let after = set (set es i (record { alive = true; from = p; net = series m v n; to = s })) j dead in
@@ -106,8 +130,21 @@ module _ (es : List Edge) (i j : ℕ) (p q r s : Option ℕ) (m n : Net) (lt : i
                 two = 0;
                 new = 0;
                 rest = arcs_of gone;
-                was = λ f. omega (arith, arcs-total f es, arcs-total f gone, two (λ x k y. f x 0 y), sum_by-cons (arc_weight f) (arc p 0 (Some v)) (arc (Some v) 0 s ∷ arcs_of gone), sum_by-cons (arc_weight f) (arc (Some v) 0 s) (arcs_of gone));
-                is = λ f. omega (arith, arcs-total f after, arcs-total f gone, is (λ x k y. f x 0 y) p (series m v n) s, sum_by-cons (arc_weight f) (arc p 0 s) (arcs_of gone));
+                was = λ f. omega (
+                  arith,
+                  arcs-total f es,
+                  arcs-total f gone,
+                  two (λ x k y. f x 0 y),
+                  sum_by-cons (arc_weight f) (arc p 0 (Some v)) (arc (Some v) 0 s ∷ arcs_of gone),
+                  sum_by-cons (arc_weight f) (arc (Some v) 0 s) (arcs_of gone),
+                );
+                is = λ f. omega (
+                  arith,
+                  arcs-total f after,
+                  arcs-total f gone,
+                  is (λ x k y. f x 0 y) p (series m v n) s,
+                  sum_by-cons (arc_weight f) (arc p 0 s) (arcs_of gone),
+                );
                 one_in = arcs-total (λ x k y. hits y (Some v)) es ∙ one_in;
                 one_out = arcs-total (λ x k y. hits x (Some v)) es ∙ one_out;
               } in
@@ -118,7 +155,12 @@ module _ (es : List Edge) (i j : ℕ) (p q r s : Option ℕ) (m n : Net) (lt : i
 
 planted-total : (f : Option ℕ → Net → Option ℕ → ℕ) (xs : List Item) → total f (planted xs) ≡ sum_by (λ x. f x.from (hold x.size) x.to) xs
 planted-total f [] = refl
-planted-total f (x ∷ xs) = omega (arith, planted-total f xs, sum_by-cons (edge_weight f) (record { alive = true; from = x.from; net = hold x.size; to = x.to }) (planted xs), sum_by-cons (λ (y : Item). f y.from (hold y.size) y.to) x xs)
+planted-total f (x ∷ xs) = omega (
+  arith,
+  planted-total f xs,
+  sum_by-cons (edge_weight f) (record { alive = true; from = x.from; net = hold x.size; to = x.to }) (planted xs),
+  sum_by-cons (λ (y : Item). f y.from (hold y.size) y.to) x xs,
+)
 
 no_sum : (xs : List Item) → sum_by (λ x. 0) xs ≡ 0
 no_sum [] = refl
@@ -150,7 +192,8 @@ none-alive f (e ∷ es) h =
     off true k = absurd (omega arith)
     off false k = refl
 
-pub forest-yes : (graph : List Item) (es : List Edge) (i : ℕ) (n : Net) → IsNetForest graph es → i < length es → get_or es i dead ≡ record { alive = true; from = None; net = n; to = None }
+pub forest-yes : (graph : List Item) (es : List Edge) (i : ℕ) (n : Net) → IsNetForest graph es
+    → i < length es → get_or es i dead ≡ record { alive = true; from = None; net = n; to = None }
     → total (λ p m q. 1) es ≡ 1 → Makes n graph
 forest-yes graph es i n forest lt at one =
     let only : (f : Option ℕ → Net → Option ℕ → ℕ) → total f es ≡ f None n None =
@@ -163,7 +206,8 @@ forest-yes graph es i n forest lt at one =
       arcs = λ f. sym (only (λ p m q. weigh f p q m)) ∙ forest.whole f;
     }
 
-pub forest-no : (graph : List Item) (es : List Edge) → IsNetForest graph es → IsIrreducible (arcs_of es) → (IsSingle (arcs_of es) → ⊥) → (t : Net) → Makes t graph → ⊥
+pub forest-no : (graph : List Item) (es : List Edge) → IsNetForest graph es
+    → IsIrreducible (arcs_of es) → (IsSingle (arcs_of es) → ⊥) → (t : Net) → Makes t graph → ⊥
 forest-no graph es forest ir not_one t m =
     let u = forest.keeps t (makes-fits t graph m) in
     not_one (ended (arcs_of es) ir u.0 u.1)

@@ -31,7 +31,8 @@ module _ (name : ℕ → ℕ) where
   named-solid : (x : Item) → is_solid (renamed name x) ≡ is_solid x
   named-solid x = ap (λ (b : Bool). b || not (x.size == 0)) (named-producer x.from)
 
-  named-sum : (f : Item → ℕ) (xs : List Item) → sum_by f (map (renamed name) (filter is_solid xs)) ≡ sum_by (solid f) (map (renamed name) xs)
+  named-sum : (f : Item → ℕ) (xs : List Item)
+      → sum_by f (map (renamed name) (filter is_solid xs)) ≡ sum_by (solid f) (map (renamed name) xs)
   named-sum f [] = refl
   named-sum f (x ∷ xs) =
       omega (
@@ -42,16 +43,19 @@ module _ (name : ℕ → ℕ) where
         named-sum f xs,
       )
     where
-      here : (b : Bool) (ys : List Item) → sum_by f (map (renamed name) (cond b (x ∷ ys) ys)) ≡ cond b (f (renamed name x)) 0 + sum_by f (map (renamed name) ys)
+      here : (b : Bool) (ys : List Item)
+          → sum_by f (map (renamed name) (cond b (x ∷ ys) ys)) ≡ cond b (f (renamed name x)) 0 + sum_by f (map (renamed name) ys)
       here true ys = sum_by-cons f (renamed name x) (map (renamed name) ys)
       here false ys = omega arith
 
-pub is-renamed : (graph : TaskGraph) (names : List ℕ) (t : Term) → HasSystem names t (completed_system graph) → IsRenamed names (system_of_term t) (completed_system graph)
+pub is-renamed : (graph : TaskGraph) (names : List ℕ) (t : Term)
+    → HasSystem names t (completed_system graph) → IsRenamed names (system_of_term t) (completed_system graph)
 is-renamed graph names t h = record {
   once = h.once;
   within = h.within;
   tasks = h.tasks;
-  items = items-weighed (map (renamed (name_in names)) (filter is_solid (system_of_term t).items)) (filter is_solid (completed_system graph).items)
+  items = items-weighed (map (renamed (name_in names)) (filter is_solid (system_of_term t).items))
+      (filter is_solid (completed_system graph).items)
       (λ f. named-sum (name_in names) f (system_of_term t).items
       ∙ sym (sum_by-IsPermutation (solid f) (map (renamed (name_in names)) (system_of_term t).items) (completed_system graph).items h.items)
       ∙ sym (solid-sum f (completed_system graph).items));

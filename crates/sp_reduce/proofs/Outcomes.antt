@@ -1,5 +1,6 @@
 -- The links at the start, and what is left of them at the end: the term of the one link, or an irreducible rest.
-use Rattle.std.proofs.Common.{◌≡◌, ℕ, zero, suc, ◌+◌, ◌<◌, ◌≤◌, Bool, true, false, cond, eqb, refl, sym, ap, subst, arith, ◌∙◌, List, [], ◌∷◌, ◌++◌, length, map, drop, take, get_or, Option, None}
+use Rattle.std.proofs.Common.{◌≡◌, ℕ, zero, suc, ◌+◌, ◌<◌, ◌≤◌, Bool, true, false, cond, eqb, refl, sym, ap, subst}
+use Rattle.std.proofs.Common.{arith, ◌∙◌, List, [], ◌∷◌, ◌++◌, length, map, drop, take, get_or, Option, None}
 use Rattle.std.specs.Prelude.{IsPermutation}
 use Rattle.std.specs.List.{sum_by}
 use Rattle.std.proofs.lemmas.List.{append-nil, drop_more, length-map, take_more}
@@ -63,7 +64,8 @@ graph-pairs : (links : List Link) → graph_of links ≡ map arc_of (pairs_of li
 graph-pairs [] = refl
 graph-pairs (l ∷ ls) = here l.alive (graph-pairs ls) where
   here : (b : Bool) → graph_of ls ≡ map arc_of (pairs_of ls)
-      → cond b (arc (end_of l.from) 0 (end_of l.to) ∷ graph_of ls) (graph_of ls) ≡ map arc_of (cond b ((l.from, l.to) ∷ pairs_of ls) (pairs_of ls))
+      → cond b (arc (end_of l.from) 0 (end_of l.to) ∷ graph_of ls) (graph_of ls)
+      ≡ map arc_of (cond b ((l.from, l.to) ∷ pairs_of ls) (pairs_of ls))
   here true e = ap (λ (xs : List Item). arc (end_of l.from) 0 (end_of l.to) ∷ xs) e
   here false e = e
 
@@ -91,11 +93,13 @@ arcs-edges : (nets : List Net) (links : List Link) (nodes : List ℕ) → arcs_o
 arcs-edges nets [] nodes = refl
 arcs-edges nets (l ∷ ls) nodes = go nodes (arcs-edges nets ls []) (λ m. arcs-edges nets ls m) where
   here : (b : Bool) (n : ℕ) (es : List Edge) → arcs_of es ≡ graph_of ls
-      → arcs_of (cond b (record { alive = true; from = end_of l.from; net = net_at nets n; to = end_of l.to }) dead ∷ es) ≡ cond b (arc (end_of l.from) 0 (end_of l.to) ∷ graph_of ls) (graph_of ls)
+      → arcs_of (cond b (record { alive = true; from = end_of l.from; net = net_at nets n; to = end_of l.to }) dead ∷ es)
+      ≡ cond b (arc (end_of l.from) 0 (end_of l.to) ∷ graph_of ls) (graph_of ls)
   here true n es e = ap (λ (xs : List Item). arc (end_of l.from) 0 (end_of l.to) ∷ xs) e
   here false n es e = e
 
-  go : (ns : List ℕ) → arcs_of (edges_of nets ls []) ≡ graph_of ls → ((m : List ℕ) → arcs_of (edges_of nets ls m) ≡ graph_of ls) → arcs_of (edges_of nets (l ∷ ls) ns) ≡ graph_of (l ∷ ls)
+  go : (ns : List ℕ) → arcs_of (edges_of nets ls []) ≡ graph_of ls
+      → ((m : List ℕ) → arcs_of (edges_of nets ls m) ≡ graph_of ls) → arcs_of (edges_of nets (l ∷ ls) ns) ≡ graph_of (l ∷ ls)
   go [] none some = here l.alive 0 (edges_of nets ls []) none
   go (n ∷ m) none some = here l.alive n (edges_of nets ls m) (some m)
 
@@ -115,7 +119,8 @@ module _ (arcs : List Arc) (links : List Link) (nodes : List ℕ) (pieces : List
   node-within x l = o.carried.within x l.within l.alive
 
   -- one link is left, from none to none: its term makes the graph
-  pub outcome-makes : (x : ℕ) → IsLink links x 0 0 → pairs_of links ≡ (0, 0) ∷ [] → Makes (net_at (nets_of pieces) (get_or nodes x 0)) (map item_of_arc arcs)
+  pub outcome-makes : (x : ℕ) → IsLink links x 0 0 → pairs_of links ≡ (0, 0) ∷ []
+      → Makes (net_at (nets_of pieces) (get_or nodes x 0)) (map item_of_arc arcs)
   outcome-makes x l one =
       forest-yes (map item_of_arc arcs) (edges_of (nets_of pieces) links nodes) x (net_at (nets_of pieces) (get_or nodes x 0)) forest
       (omega (arith, edges-length (nets_of pieces) links nodes, l.within)) (live-edge (nets_of pieces) links nodes x 0 0 l)
@@ -135,7 +140,13 @@ module _ (arcs : List Arc) (links : List Link) (nodes : List ℕ) (pieces : List
 
 pub irreducible-order : (g h : List (ℕ × ℕ)) → IsPermutation g h → IsIrreducible g → IsIrreducible h
 irreducible-order g h p ir = record {
-  no_parallel = λ after r. ir.no_parallel after (record { from = r.from; to = r.to; rest = r.rest; was = IsPermutation-trans g h ((r.from, r.to) ∷ (r.from, r.to) ∷ r.rest) p r.was; is = r.is });
+  no_parallel = λ after r. ir.no_parallel after (record {
+    from = r.from;
+    to = r.to;
+    rest = r.rest;
+    was = IsPermutation-trans g h ((r.from, r.to) ∷ (r.from, r.to) ∷ r.rest) p r.was;
+    is = r.is;
+  });
   no_series = λ after r. ir.no_series after (record {
     from = r.from;
     to = r.to;
@@ -167,14 +178,21 @@ module _ (links : List Link) (i : ℕ) (lt : i < length links) where
   cut = drop_more links i no_link lt
 
   pub drop-dead : (link_at links i).alive ≡ false → pairs_of (drop i links) ≡ pairs_of (drop (i + 1) links)
-  drop-dead dead_one = ap pairs_of cut ∙ ap (λ b. cond b (((link_at links i).from, (link_at links i).to) ∷ pairs_of (drop (i + 1) links)) (pairs_of (drop (i + 1) links))) dead_one
+  drop-dead dead_one = ap pairs_of cut
+      ∙ ap (λ b. cond b (((link_at links i).from, (link_at links i).to) ∷ pairs_of (drop (i + 1) links)) (pairs_of (drop (i + 1) links)))
+      dead_one
 
-  pub drop-alive : (link_at links i).alive ≡ true → pairs_of (drop i links) ≡ ((link_at links i).from, (link_at links i).to) ∷ pairs_of (drop (i + 1) links)
-  drop-alive live = ap pairs_of cut ∙ ap (λ b. cond b (((link_at links i).from, (link_at links i).to) ∷ pairs_of (drop (i + 1) links)) (pairs_of (drop (i + 1) links))) live
+  pub drop-alive : (link_at links i).alive ≡ true
+      → pairs_of (drop i links) ≡ ((link_at links i).from, (link_at links i).to) ∷ pairs_of (drop (i + 1) links)
+  drop-alive live = ap pairs_of cut
+      ∙ ap (λ b. cond b (((link_at links i).from, (link_at links i).to) ∷ pairs_of (drop (i + 1) links)) (pairs_of (drop (i + 1) links)))
+      live
 
-  pub the-link : (link_at links i).alive ≡ true → pairs_of links ≡ pairs_of (drop i links) → pairs_of links ≡ (0, 0) ∷ [] → IsLink links i 0 0
+  pub the-link : (link_at links i).alive ≡ true → pairs_of links ≡ pairs_of (drop i links)
+      → pairs_of links ≡ (0, 0) ∷ [] → IsLink links i 0 0
   the-link live same one =
-      let e : ((link_at links i).from, (link_at links i).to) ∷ pairs_of (drop (i + 1) links) ≡ (0, 0) ∷ [] = sym (same ∙ drop-alive live) ∙ one in
+      let e : ((link_at links i).from, (link_at links i).to) ∷ pairs_of (drop (i + 1) links) ≡ (0, 0) ∷ [] =
+      sym (same ∙ drop-alive live) ∙ one in
       record {
         within = lt;
         alive = live;
@@ -189,16 +207,19 @@ one-list (x ∷ y ∷ xs) d e a b = absurd (omega arith)
 
 -- ---- one arc more
 
-pub carried-empty : (graph : List Item) (pieces : List Piece) (links : List Link) (nodes : List ℕ) → pieces ≡ [] → links ≡ [] → nodes ≡ [] → IsCarried graph graph pieces links nodes
+pub carried-empty : (graph : List Item) (pieces : List Piece) (links : List Link) (nodes : List ℕ)
+    → pieces ≡ [] → links ≡ [] → nodes ≡ [] → IsCarried graph graph pieces links nodes
 carried-empty graph pieces links nodes a b c =
     subst (λ (ps : List Piece). IsCarried graph graph ps links nodes) (sym a)
     (subst (λ (ls : List Link). IsCarried graph graph [] ls nodes) (sym b)
     (subst (λ (ns : List ℕ). IsCarried graph graph [] [] ns) (sym c) (carried-start graph)))
 
-pub item-next : (arcs : List Arc) (d : Arc) (i : ℕ) → i < length arcs → map item_of_arc (drop i arcs) ≡ item_of_arc (get_or arcs i d) ∷ map item_of_arc (drop (i + 1) arcs)
+pub item-next : (arcs : List Arc) (d : Arc) (i : ℕ) → i < length arcs
+    → map item_of_arc (drop i arcs) ≡ item_of_arc (get_or arcs i d) ∷ map item_of_arc (drop (i + 1) arcs)
 item-next arcs d i lt = ap (map item_of_arc) (drop_more arcs i d lt)
 
-pub ends-next : (arcs : List Arc) (d : Arc) (i : ℕ) → i < length arcs → map ends_of (drop i arcs) ≡ ends_of (get_or arcs i d) ∷ map ends_of (drop (i + 1) arcs)
+pub ends-next : (arcs : List Arc) (d : Arc) (i : ℕ) → i < length arcs
+    → map ends_of (drop i arcs) ≡ ends_of (get_or arcs i d) ∷ map ends_of (drop (i + 1) arcs)
 ends-next arcs d i lt = ap (map ends_of) (drop_more arcs i d lt)
 
 -- ---- the ends that are left
@@ -212,7 +233,8 @@ module _ (links : List Link) (i : ℕ) (lt : i < length links) where
       taken ∙ ap (λ b. pairs_of (take i links) ++ cond b (((link_at links i).from, (link_at links i).to) ∷ []) []) dead_one
       ∙ append-nil (pairs_of (take i links))
 
-  pub take-alive : (link_at links i).alive ≡ true → pairs_of (take (i + 1) links) ≡ pairs_of (take i links) ++ ((link_at links i).from, (link_at links i).to) ∷ []
+  pub take-alive : (link_at links i).alive ≡ true
+      → pairs_of (take (i + 1) links) ≡ pairs_of (take i links) ++ ((link_at links i).from, (link_at links i).to) ∷ []
   take-alive live = taken ∙ ap (λ b. pairs_of (take i links) ++ cond b (((link_at links i).from, (link_at links i).to) ∷ []) []) live
 
 abbrev pub no_arc : Arc

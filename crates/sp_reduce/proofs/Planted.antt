@@ -1,5 +1,6 @@
 -- One arc more among the links: a new link, or a part of the term of its twin.
-use Rattle.std.proofs.Common.{◌≡◌, ℕ, ◌+◌, ◌<◌, Bool, true, false, cond, refl, sym, subst, ap, arith, ◌∙◌, List, [], ◌∷◌, ◌++◌, length, Option, Some, get_or, set, length-append, inl, inr, append_assoc}
+use Rattle.std.proofs.Common.{◌≡◌, ℕ, ◌+◌, ◌<◌, Bool, true, false, cond, refl, sym, subst, ap, arith, ◌∙◌, List, []}
+use Rattle.std.proofs.Common.{◌∷◌, ◌++◌, length, Option, Some, get_or, set, length-append, inl, inr, append_assoc}
 use Rattle.std.specs.List.{sum_by}
 use Rattle.std.proofs.lemmas.List.{length-set, get_or-set_same, get_or-set_other, set-append_left, get_or_append_left, get_or_push}
 use Rattle.std.proofs.Math.Seq.{get_or-append_seam, set-append_seam}
@@ -25,7 +26,8 @@ use Rattle.sp_reduce.proofs.Carried.{made-push, new-net, old-net, edges-push, ed
 -- ---- a dead edge counts for nothing
 
 dead-total : (f : Option ℕ → Net → Option ℕ → ℕ) (xs ys : List Edge) → total f (xs ++ dead ∷ ys) ≡ total f (xs ++ ys)
-dead-total f xs ys = omega (arith, sum_by-append (edge_weight f) xs (dead ∷ ys), sum_by-cons (edge_weight f) dead ys, sum_by-append (edge_weight f) xs ys)
+dead-total f xs ys =
+    omega (arith, sum_by-append (edge_weight f) xs (dead ∷ ys), sum_by-cons (edge_weight f) dead ys, sum_by-append (edge_weight f) xs ys)
 
 dead-arcs : (xs ys : List Edge) → arcs_of (xs ++ dead ∷ ys) ≡ arcs_of (xs ++ ys)
 dead-arcs [] ys = refl
@@ -35,13 +37,18 @@ forest-dead : (graph : List Item) (xs ys : List Edge) → IsNetForest graph (xs 
 forest-dead graph xs ys h = record {
   whole = λ f. sym (dead-total _ xs ys) ∙ h.whole f;
   once = λ v. omega (arith, h.once v, dead-total (λ p n q. times v n) xs ys);
-  open_tasks = λ v some. omega (arith, h.open_tasks v (omega (arith, some, dead-total (λ p n q. hits q (Some v)) xs ys)), dead-total (λ p n q. times v n) xs ys);
+  open_tasks = λ v some. omega (
+    arith,
+    h.open_tasks v (omega (arith, some, dead-total (λ p n q. hits q (Some v)) xs ys)),
+    dead-total (λ p n q. times v n) xs ys,
+  );
   keeps = λ t fits. let u = h.keeps t fits in (u.0, subst (Fits u.0) (dead-arcs xs ys) u.1);
 }
 
 -- ---- a new link
 
-edges-append : (nets : List Net) (ls : List Link) (ns : List ℕ) (l : Link) (n : ℕ) → length ns ≡ length ls → edges_of nets (ls ++ l ∷ []) (ns ++ n ∷ []) ≡ edges_of nets ls ns ++ edge_of nets l n ∷ []
+edges-append : (nets : List Net) (ls : List Link) (ns : List ℕ) (l : Link) (n : ℕ) → length ns ≡ length ls
+    → edges_of nets (ls ++ l ∷ []) (ns ++ n ∷ []) ≡ edges_of nets ls ns ++ edge_of nets l n ∷ []
 edges-append nets [] [] l n e = refl
 edges-append nets [] (y ∷ ns) l n e = absurd (omega arith)
 edges-append nets (x ∷ ls) [] l n e = absurd (omega arith)
@@ -60,12 +67,22 @@ module _ (graph rest : List Item) (ps : List Piece) (links : List Link) (nodes :
       let own : Edge = record { alive = true; from = end_of p; net = hold size; to = end_of q } in
       let edges : edges_of nets (links ++ link p q ∷ []) (nodes ++ length ps ∷ []) ≡ es ++ own ∷ [] =
       edges-append nets links nodes (link p q) (length ps) h.lens
-      ∙ (λ i. edges-push ps x links nodes h.within i ++ record { alive = true; from = end_of p; net = new-net ps x (length ps) refl i; to = end_of q } ∷ []) in
+      ∙ (λ i. edges-push ps x links nodes h.within i ++ record {
+        alive = true;
+        from = end_of p;
+        net = new-net ps x (length ps) refl i;
+        to = end_of q;
+      } ∷ []) in
       record {
         lens = omega (arith, h.lens, length-append nodes (length ps ∷ []), length-append links (link p q ∷ []));
         made = made-push ps x h.made tt;
         within = λ y lt a. elim (cases_eq y (length links)) [
-          | inl e ↦ omega (arith, ap (λ (z : ℕ). get_or (nodes ++ length ps ∷ []) z 0) e, get_or_push nodes (length ps) 0 (length links) h.lens, length-append ps (x ∷ []))
+          | inl e ↦ omega (
+            arith,
+            ap (λ (z : ℕ). get_or (nodes ++ length ps ∷ []) z 0) e,
+            get_or_push nodes (length ps) 0 (length links) h.lens,
+            length-append ps (x ∷ []),
+          )
           | inr ne ↦ (let short : y < length links = omega (arith, lt, ne, length-append links (link p q ∷ [])) in
               omega (
                 arith,
@@ -73,13 +90,15 @@ module _ (graph rest : List Item) (ps : List Piece) (links : List Link) (nodes :
                 within-one y short (sym (ap (λ (z : Link). z.alive) (get_or_append_left links (link p q ∷ []) no_link y short)) ∙ a),
               ))
         ];
-        forest = subst (IsNetForest graph) (sym (ap (λ (xs : List Edge). xs ++ planted rest) edges ∙ append_assoc es (own ∷ []) (planted rest))) h.forest;
+        forest = subst (IsNetForest graph)
+            (sym (ap (λ (xs : List Edge). xs ++ planted rest) edges ∙ append_assoc es (own ∷ []) (planted rest))) h.forest;
       }
 
   -- ---- a part of the term of its twin
 
   module _ (k : ℕ) (twin : IsLink links k p q) where
-    pub carried-twin : (m : ℕ) → m ≡ length ps + 1 → IsCarried graph rest ((ps ++ Hold size ∷ []) ++ Both (get_or nodes k 0) (length ps) ∷ []) links (set nodes k m)
+    pub carried-twin : (m : ℕ) → m ≡ length ps + 1
+        → IsCarried graph rest ((ps ++ Hold size ∷ []) ++ Both (get_or nodes k 0) (length ps) ∷ []) links (set nodes k m)
     carried-twin m m_is =
         let x = Hold size in
         let y = Both (get_or nodes k 0) (length ps) in
@@ -88,17 +107,28 @@ module _ (graph rest : List Item) (ps : List Piece) (links : List Link) (nodes :
         let es = edges_of (nets_of ps) links nodes in
         let len : length es ≡ length links = edges-length (nets_of ps) links nodes in
         let own : Edge = record { alive = true; from = end_of p; net = hold size; to = end_of q } in
-        let joined : Edge = record { alive = true; from = end_of p; net = both (net_at (nets_of ps) (get_or nodes k 0)) (hold size); to = end_of q } in
+        let joined : Edge =
+        record { alive = true; from = end_of p; net = both (net_at (nets_of ps) (get_or nodes k 0)) (hold size); to = end_of q } in
         let long : length ps1 ≡ length ps + 1 = length-append ps (x ∷ []) in
-        let made = forest-parallel (es ++ own ∷ planted rest) k (length es) (end_of p) (end_of q) (end_of p) (end_of q) (net_at (nets_of ps) (get_or nodes k 0)) (hold size)
-        (omega (arith, length-append es (own ∷ planted rest), len, twin.within)) (omega (arith, length-append es (own ∷ planted rest))) (omega (arith, len, twin.within))
-        (get_or_append_left es (own ∷ planted rest) dead k (omega (arith, len, twin.within)) ∙ live-edge (nets_of ps) links nodes k p q twin)
+        let made = forest-parallel (es ++ own ∷ planted rest) k (length es) (end_of p)
+        (end_of q) (end_of p) (end_of q) (net_at (nets_of ps) (get_or nodes k 0)) (hold size)
+        (omega (arith, length-append es (own ∷ planted rest), len, twin.within))
+        (omega (arith, length-append es (own ∷ planted rest))) (omega (arith, len, twin.within))
+        (get_or_append_left es (own ∷ planted rest) dead k (omega (arith, len, twin.within))
+        ∙ live-edge (nets_of ps) links nodes k p q twin)
         (get_or-append_seam es own (planted rest) dead) graph h.forest refl refl in
         let written : set (set (es ++ own ∷ planted rest) k joined) (length es) dead ≡ set es k joined ++ dead ∷ planted rest =
-        ap (λ (zs : List Edge). set zs (length es) dead) (set-append_left es (own ∷ planted rest) k joined (omega (arith, len, twin.within)))
-        ∙ ap (λ (n : ℕ). set (set es k joined ++ own ∷ planted rest) n dead) (sym (length-set es k joined)) ∙ set-append_seam (set es k joined) own (planted rest) dead in
+        ap (λ (zs : List Edge). set zs (length es) dead)
+        (set-append_left es (own ∷ planted rest) k joined (omega (arith, len, twin.within)))
+        ∙ ap (λ (n : ℕ). set (set es k joined ++ own ∷ planted rest) n dead) (sym (length-set es k joined))
+        ∙ set-append_seam (set es k joined) own (planted rest) dead in
         let here : edge_of nets (link_at links k) m ≡ joined =
-        ap (λ b. cond b (record { alive = true; from = end_of (link_at links k).from; net = net_at nets m; to = end_of (link_at links k).to }) dead) twin.alive
+        ap (λ b. cond b (record {
+          alive = true;
+          from = end_of (link_at links k).from;
+          net = net_at nets m;
+          to = end_of (link_at links k).to;
+        }) dead) twin.alive
         ∙ (λ z. record { alive = true; from = end_of (twin.from z); net = new-net ps1 y m (m_is ∙ sym long) z; to = end_of (twin.to z) })
         ∙ (λ z. record {
           alive = true;
@@ -107,12 +137,20 @@ module _ (graph rest : List Item) (ps : List Piece) (links : List Link) (nodes :
           to = end_of q;
         }) in
         let edges : edges_of nets links (set nodes k m) ≡ set es k joined =
-        edges-node nets links nodes k m h.lens ∙ (λ z. set ((edges-push ps1 y links nodes within-one ∙ edges-push ps x links nodes h.within) z) k (here z)) in
+        edges-node nets links nodes k m h.lens
+        ∙ (λ z. set ((edges-push ps1 y links nodes within-one ∙ edges-push ps x links nodes h.within) z) k (here z)) in
         record {
           lens = length-set nodes k m ∙ h.lens;
           made = made-push ps1 y (made-push ps x h.made tt) (omega (arith, long, h.within k twin.within twin.alive), omega (arith, long));
           within = λ u lt a. elim (cases_eq u k) [
-            | inl e ↦ omega (arith, ap (λ (z : ℕ). get_or (set nodes k m) z 0) e, get_or-set_same nodes k m 0 (omega (arith, h.lens, twin.within)), length-append ps1 (y ∷ []), long, m_is)
+            | inl e ↦ omega (
+              arith,
+              ap (λ (z : ℕ). get_or (set nodes k m) z 0) e,
+              get_or-set_same nodes k m 0 (omega (arith, h.lens, twin.within)),
+              length-append ps1 (y ∷ []),
+              long,
+              m_is,
+            )
             | inr ne ↦ omega (arith, get_or-set_other nodes k u m 0 ne, length-append ps1 (y ∷ []), long, h.within u lt a)
           ];
           forest = subst (λ (zs : List Edge). IsNetForest graph (zs ++ planted rest)) (sym edges)
@@ -125,17 +163,20 @@ pub pairs-append : (xs ys : List Link) → pairs_of (xs ++ ys) ≡ pairs_of xs +
 pairs-append [] ys = refl
 pairs-append (x ∷ xs) ys = here x.alive (pairs-append xs ys) where
   here : (b : Bool) → pairs_of (xs ++ ys) ≡ pairs_of xs ++ pairs_of ys
-      → cond b ((x.from, x.to) ∷ pairs_of (xs ++ ys)) (pairs_of (xs ++ ys)) ≡ cond b ((x.from, x.to) ∷ pairs_of xs) (pairs_of xs) ++ pairs_of ys
+      → cond b ((x.from, x.to) ∷ pairs_of (xs ++ ys)) (pairs_of (xs ++ ys))
+      ≡ cond b ((x.from, x.to) ∷ pairs_of xs) (pairs_of xs) ++ pairs_of ys
   here true e = ap (λ (zs : List (ℕ × ℕ)). (x.from, x.to) ∷ zs) e
   here false e = e
 
-pub leads-new : (links : List Link) (p q : ℕ) (rest : List (ℕ × ℕ)) → ReducesTo (pairs_of links ++ (p, q) ∷ rest) (pairs_of (links ++ link p q ∷ []) ++ rest)
+pub leads-new : (links : List Link) (p q : ℕ) (rest : List (ℕ × ℕ))
+    → ReducesTo (pairs_of links ++ (p, q) ∷ rest) (pairs_of (links ++ link p q ∷ []) ++ rest)
 leads-new links p q rest =
     let same : pairs_of (links ++ link p q ∷ []) ++ rest ≡ pairs_of links ++ (p, q) ∷ rest =
     ap (λ (zs : List (ℕ × ℕ)). zs ++ rest) (pairs-append links (link p q ∷ [])) ∙ append_assoc (pairs_of links) ((p, q) ∷ []) rest in
     subst (ReducesTo (pairs_of links ++ (p, q) ∷ rest)) (sym same) (in_order (IsPermutation-refl (pairs_of links ++ (p, q) ∷ rest)))
 
-pub leads-twin : (links : List Link) (p q : ℕ) (rest : List (ℕ × ℕ)) (k : ℕ) → IsLink links k p q → ReducesTo (pairs_of links ++ (p, q) ∷ rest) (pairs_of links ++ rest)
+pub leads-twin : (links : List Link) (p q : ℕ) (rest : List (ℕ × ℕ)) (k : ℕ)
+    → IsLink links k p q → ReducesTo (pairs_of links ++ (p, q) ∷ rest) (pairs_of links ++ rest)
 leads-twin links p q rest k twin =
     let gone = set links k no_link in
     let left = pairs_of gone ++ rest in
@@ -162,5 +203,6 @@ leads-twin links p q rest k twin =
             sum_by-append f (pairs_of gone) rest,
           ));
       is = pairs-weighed (pairs_of links ++ rest) ((p, q) ∷ left)
-          (λ f. omega (arith, one f, sum_by-append f (pairs_of links) rest, sum_by-cons f (p, q) left, sum_by-append f (pairs_of gone) rest));
+          (λ f. omega
+          (arith, one f, sum_by-append f (pairs_of links) rest, sum_by-cons f (p, q) left, sum_by-append f (pairs_of gone) rest));
     }) (in_order (IsPermutation-refl (pairs_of links ++ rest)))

@@ -18,7 +18,8 @@ use Rattle.sp_reduce.proofs.Whole.{weigh-arcs}
 
 -- the arcs of the net are the items, renamed, in order
 mutual
-  pub named-arcs : (f : ℕ → ℕ) (base : ℕ) (from to : Option ℕ) (t : Term) → HasParts t → arcs (option_map f from) (option_map f to) (named f base t) ≡ map (renamed f) (items_of_term base from to t)
+  pub named-arcs : (f : ℕ → ℕ) (base : ℕ) (from to : Option ℕ) (t : Term) → HasParts t
+      → arcs (option_map f from) (option_map f to) (named f base t) ≡ map (renamed f) (items_of_term base from to t)
   named-arcs f base from to (terms.hold n) g = refl
   named-arcs f base from to (terms.series a v b) g =
       let m = own_number base a b in
@@ -26,9 +27,11 @@ mutual
       ∙ sym (map-append (renamed f) (items_of_term base from (Some m) a) (items_of_term (base + task_count a) (Some m) to b))
   named-arcs f base from to (terms.par ts) g = all-named-arcs f base from to ts g.0 g.1
 
-  all-named-arcs : (f : ℕ → ℕ) (base : ℕ) (from to : Option ℕ) (ts : Parts) → HasOne ts → AllHaveParts ts → arcs (option_map f from) (option_map f to) (all_named f base ts) ≡ map (renamed f) (items_of_parts base from to ts)
+  all-named-arcs : (f : ℕ → ℕ) (base : ℕ) (from to : Option ℕ) (ts : Parts) → HasOne ts → AllHaveParts ts
+      → arcs (option_map f from) (option_map f to) (all_named f base ts) ≡ map (renamed f) (items_of_parts base from to ts)
   all-named-arcs f base from to no_parts s g = absurd s
-  all-named-arcs f base from to (part t no_parts) s g = named-arcs f base from to t g.0 ∙ ap (map (renamed f)) (sym (append-nil (items_of_term base from to t)))
+  all-named-arcs f base from to (part t no_parts) s g =
+      named-arcs f base from to t g.0 ∙ ap (map (renamed f)) (sym (append-nil (items_of_term base from to t)))
   all-named-arcs f base from to (part t (part u us)) s g =
       (λ i. named-arcs f base from to t g.0 i ++ all-named-arcs f (base + task_count t) from to (part u us) tt g.1 i)
       ∙ sym (map-append (renamed f) (items_of_term base from to t) (items_of_parts (base + task_count t) from to (part u us)))
@@ -40,13 +43,15 @@ pub record Once (f g : ℕ → ℕ) (base count v n : ℕ) : Type 0 where
 
 module _ (f g : ℕ → ℕ) (n : ℕ) (back : (k : ℕ) → 1 ≤ k → k < n → g (f k) ≡ k) where
   mutual
-    named-once : (base : ℕ) (t : Term) (v : ℕ) → 1 ≤ base → HasParts t → base + task_count t ≤ n → Once f g base (task_count t) v (times v (named f base t))
+    named-once : (base : ℕ) (t : Term) (v : ℕ) → 1 ≤ base → HasParts t
+        → base + task_count t ≤ n → Once f g base (task_count t) v (times v (named f base t))
     named-once base (terms.hold size) v low k r = record { once = omega arith; place = λ h. absurd (omega arith) }
     named-once base (terms.series a w b) v low k r =
         let m = own_number base a b in
         let x = named-once base a v low k.0 (omega arith) in
         let y = named-once (base + task_count a) b v (omega arith) k.1 (omega arith) in
-        let z : 1 ≤ hits (Some (f m)) (Some v) → g v ≡ m = λ h. ap g (same (hits-same (Some (f m)) (Some v) h)) ∙ back m (omega arith) (omega arith) in
+        let z : 1 ≤ hits (Some (f m)) (Some v) → g v ≡ m =
+        λ h. ap g (same (hits-same (Some (f m)) (Some v) h)) ∙ back m (omega arith) (omega arith) in
         split 1 (times v (named f base a))
         (λ h. split 1 (times v (named f (base + task_count a) b))
         (λ l. absurd (omega (arith, x.place h, y.place l)))
@@ -63,9 +68,11 @@ module _ (f g : ℕ → ℕ) (n : ℕ) (back : (k : ℕ) → 1 ≤ k → k < n �
         same e = cc
     named-once base (terms.par ts) v low k r = all-named-once base ts v low k.0 k.1 r
 
-    all-named-once : (base : ℕ) (ts : Parts) (v : ℕ) → 1 ≤ base → HasOne ts → AllHaveParts ts → base + task_count_of_parts ts ≤ n → Once f g base (task_count_of_parts ts) v (times v (all_named f base ts))
+    all-named-once : (base : ℕ) (ts : Parts) (v : ℕ) → 1 ≤ base → HasOne ts → AllHaveParts ts
+        → base + task_count_of_parts ts ≤ n → Once f g base (task_count_of_parts ts) v (times v (all_named f base ts))
     all-named-once base no_parts v low s k r = absurd s
-    all-named-once base (part t no_parts) v low s k r = let x = named-once base t v low k.0 (omega arith) in record { once = x.once; place = λ h. omega (arith, x.place h) }
+    all-named-once base (part t no_parts) v low s k r = let x = named-once base t v low k.0 (omega arith) in
+        record { once = x.once; place = λ h. omega (arith, x.place h) }
     all-named-once base (part t (part u us)) v low s k r =
         let x = named-once base t v low k.0 (omega arith) in
         let y = all-named-once (base + task_count t) (part u us) v (omega arith) tt k.1 (omega arith) in

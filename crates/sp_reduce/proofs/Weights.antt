@@ -3,7 +3,8 @@ use Rattle.std.proofs.Common.{◌≡◌, ℕ, ◌≤◌, sym, subst, ap, arith, 
 use Rattle.std.specs.Prelude.{IsPermutation}
 use Rattle.std.specs.List.{sum_by}
 use Rattle.std.proofs.lemmas.List.Sums.{sum_by-cons, sum_by-append}
-use Rattle.std.proofs.lemmas.List.Sorted.{IsPermutation-refl, IsPermutation-sym, IsPermutation-trans, IsPermutation-cons, IsPermutation-middle}
+use Rattle.std.proofs.lemmas.List.Sorted.{IsPermutation-refl, IsPermutation-sym, IsPermutation-trans}
+use Rattle.std.proofs.lemmas.List.Sorted.{IsPermutation-cons, IsPermutation-middle}
 use Rattle.sp_reduce.proofs.Ends.{split}
 
 -- with a test that weighs an element once, and only that
@@ -26,7 +27,15 @@ module _ {X : Type 0} (test : X → X → ℕ) (self : (x : X) → test x x ≡ 
   weighed (x ∷ xs) ys h =
       let k = cut x ys (omega (arith, h (test x), sum_by-cons (test x) x xs, self x)) in
       let rest : (f : X → ℕ) → sum_by f xs ≡ sum_by f (k.before ++ k.after) =
-      λ f. omega (arith, h f, ap (sum_by f) k.is, sum_by-cons f x xs, sum_by-append f k.before (x ∷ k.after), sum_by-cons f x k.after, sum_by-append f k.before k.after) in
+      λ f. omega (
+        arith,
+        h f,
+        ap (sum_by f) k.is,
+        sum_by-cons f x xs,
+        sum_by-append f k.before (x ∷ k.after),
+        sum_by-cons f x k.after,
+        sum_by-append f k.before k.after,
+      ) in
       let inner = IsPermutation-cons x xs (k.before ++ k.after) (weighed xs (k.before ++ k.after) rest) in
       subst (IsPermutation (x ∷ xs)) (sym k.is)
       (IsPermutation-trans (x ∷ xs) (x ∷ (k.before ++ k.after)) (k.before ++ x ∷ k.after) inner

@@ -5,15 +5,23 @@ use Rattle.std.specs.List.{sum_by}
 use Rattle.std.proofs.lemmas.List.Sums.{sum_by-cons, sum_by-append, sum_by-le-sum_by}
 use Rattle.mp_system.specs.declared.system.Item.{Item}
 use Rattle.sp_reduce.specs.Nets.{Net, hold, series, both, arcs, times, weigh, count, hits, pair, into, out_of, knows}
-use Rattle.sp_reduce.specs.NetGraphs.{arc_weight, arc_count, counted, Makes, Fits, arc, IsParallel, IsSeries, Row, stop, parallel, series_at, IsIrreducible, IsSingle, Decides}
+use Rattle.sp_reduce.specs.NetGraphs.{arc_weight, arc_count, counted, Makes, Fits, arc, IsParallel, IsSeries}
+use Rattle.sp_reduce.specs.NetGraphs.{Row, stop, parallel, series_at, IsIrreducible, IsSingle, Decides}
 use Rattle.sp_reduce.proofs.Ends.{split, hits-self, hits-le, hits-same, into-known, into-task}
 use Rattle.sp_reduce.proofs.Steps.{drop_twin, Without, take_out, one, twins, lone, reducible}
 
 -- the weights of a term are those of its arcs
-pub weigh-arcs : (f : Option ℕ → ℕ → Option ℕ → ℕ) (from to : Option ℕ) (t : Net) → weigh f from to t ≡ sum_by (arc_weight f) (arcs from to t)
+pub weigh-arcs : (f : Option ℕ → ℕ → Option ℕ → ℕ) (from to : Option ℕ) (t : Net)
+    → weigh f from to t ≡ sum_by (arc_weight f) (arcs from to t)
 weigh-arcs f from to (hold n) = sym (sum_by-cons (arc_weight f) (arc from n to) [] ∙ omega arith)
-weigh-arcs f from to (series a v b) = omega (arith, weigh-arcs f from (Some v) a, weigh-arcs f (Some v) to b, sum_by-append (arc_weight f) (arcs from (Some v) a) (arcs (Some v) to b))
-weigh-arcs f from to (both a b) = omega (arith, weigh-arcs f from to a, weigh-arcs f from to b, sum_by-append (arc_weight f) (arcs from to a) (arcs from to b))
+weigh-arcs f from to (series a v b) = omega (
+  arith,
+  weigh-arcs f from (Some v) a,
+  weigh-arcs f (Some v) to b,
+  sum_by-append (arc_weight f) (arcs from (Some v) a) (arcs (Some v) to b),
+)
+weigh-arcs f from to (both a b) =
+    omega (arith, weigh-arcs f from to a, weigh-arcs f from to b, sum_by-append (arc_weight f) (arcs from to a) (arcs from to b))
 
 weigh-count : (g : Option ℕ → Option ℕ → ℕ) (from to : Option ℕ) (t : Net) → weigh (λ p n q. g p q) from to t ≡ count g from to t
 weigh-count g from to (hold n) = refl
@@ -45,15 +53,26 @@ replaced from to p n q (hold m) u h =
     let a = hits-same from p (omega arith) in
     let b = hits-same to q (omega arith) in
     let c = same_size m n (omega arith) in
-    record { net = u; arcs = λ f. subst (λ x. weigh f x to u + f p n q ≡ f x m to + weigh f p q u) (sym a) (subst (λ x. weigh f p x u + f p n q ≡ f p m x + weigh f p q u) (sym b) (subst (λ x. weigh f p q u + f p n q ≡ f p x q + weigh f p q u) (sym c) (omega arith))); same = λ w. omega arith }
+    record {
+      net = u;
+      arcs = λ f. subst (λ x. weigh f x to u + f p n q ≡ f x m to + weigh f p q u) (sym a)
+          (subst (λ x. weigh f p x u + f p n q ≡ f p m x + weigh f p q u) (sym b)
+          (subst (λ x. weigh f p q u + f p n q ≡ f p x q + weigh f p q u) (sym c) (omega arith)));
+      same = λ w. omega arith;
+    }
 replaced from to p n q (series a v b) u h = split 1 (weigh (exact p n q) from (Some v) a)
-    (λ k. let r = replaced from (Some v) p n q a u k in record { net = series r.net v b; arcs = λ f. omega (arith, r.arcs f); same = λ w. omega (arith, r.same w) })
-    (λ k. let r = replaced (Some v) to p n q b u (omega arith) in record { net = series a v r.net; arcs = λ f. omega (arith, r.arcs f); same = λ w. omega (arith, r.same w) })
+    (λ k. let r = replaced from (Some v) p n q a u k in
+    record { net = series r.net v b; arcs = λ f. omega (arith, r.arcs f); same = λ w. omega (arith, r.same w) })
+    (λ k. let r = replaced (Some v) to p n q b u (omega arith) in
+    record { net = series a v r.net; arcs = λ f. omega (arith, r.arcs f); same = λ w. omega (arith, r.same w) })
 replaced from to p n q (both a b) u h = split 1 (weigh (exact p n q) from to a)
-    (λ k. let r = replaced from to p n q a u k in record { net = both r.net b; arcs = λ f. omega (arith, r.arcs f); same = λ w. omega (arith, r.same w) })
-    (λ k. let r = replaced from to p n q b u (omega arith) in record { net = both a r.net; arcs = λ f. omega (arith, r.arcs f); same = λ w. omega (arith, r.same w) })
+    (λ k. let r = replaced from to p n q a u k in
+    record { net = both r.net b; arcs = λ f. omega (arith, r.arcs f); same = λ w. omega (arith, r.same w) })
+    (λ k. let r = replaced from to p n q b u (omega arith) in
+    record { net = both a r.net; arcs = λ f. omega (arith, r.arcs f); same = λ w. omega (arith, r.same w) })
 
-two_first : (f : Option ℕ → ℕ → Option ℕ → ℕ) (x y : Item) (rest : List Item) → sum_by (arc_weight f) (x ∷ y ∷ rest) ≡ arc_weight f x + (arc_weight f y + sum_by (arc_weight f) rest)
+two_first : (f : Option ℕ → ℕ → Option ℕ → ℕ) (x y : Item) (rest : List Item)
+    → sum_by (arc_weight f) (x ∷ y ∷ rest) ≡ arc_weight f x + (arc_weight f y + sum_by (arc_weight f) rest)
 two_first f x y rest = omega (arith, sum_by-cons (arc_weight f) x (y ∷ rest), sum_by-cons (arc_weight f) y rest)
 
 pub exact-self : (p : Option ℕ) (n : ℕ) (q : Option ℕ) → exact p n q p n q ≡ 1
@@ -67,11 +86,20 @@ back-parallel before after r t m =
       r2.net,
       record {
         distinct = λ v. omega (arith, r2.same v, m.distinct v);
-        arcs = λ f. omega (arith, r2.arcs f, m.arcs f, r.was f, r.is f, two_first f (arc r.from r.one r.to) (arc r.from r.two r.to) r.rest, sum_by-cons (arc_weight f) (arc r.from r.new r.to) r.rest);
+        arcs = λ f. omega (
+          arith,
+          r2.arcs f,
+          m.arcs f,
+          r.was f,
+          r.is f,
+          two_first f (arc r.from r.one r.to) (arc r.from r.two r.to) r.rest,
+          sum_by-cons (arc_weight f) (arc r.from r.new r.to) r.rest,
+        );
       },
     )
 
-counted-two : (g : Option ℕ → Option ℕ → ℕ) (x y : Item) (rest : List Item) → counted g (x ∷ y ∷ rest) ≡ arc_count g x + (arc_count g y + counted g rest)
+counted-two : (g : Option ℕ → Option ℕ → ℕ) (x y : Item) (rest : List Item)
+    → counted g (x ∷ y ∷ rest) ≡ arc_count g x + (arc_count g y + counted g rest)
 counted-two g x y rest = omega (arith, sum_by-cons (arc_count g) x (y ∷ rest), sum_by-cons (arc_count g) y rest)
 
 -- nothing else leads to the task, or from it
@@ -104,14 +132,31 @@ back-series before after r t m =
     (omega (arith, m.arcs e, r.is e, sum_by-cons (arc_weight e) (arc r.from r.new r.to) r.rest, exact-self r.from r.new r.to)) in
     let fits = makes-fits t after m in
     let new : times r.task t ≡ 0 = split 1 (times r.task t)
-    (λ h. absurd (omega (arith, into-task r.task None None t h, fits.ends (into o), r.is (λ p n q. into o p q), sum_by-cons (arc_count (into o)) (arc r.from r.new r.to) r.rest, al.to_far, al.none_in)))
+    (λ h. absurd (omega (
+      arith,
+      into-task r.task None None t h,
+      fits.ends (into o),
+      r.is (λ p n q. into o p q),
+      sum_by-cons (arc_count (into o)) (arc r.from r.new r.to) r.rest,
+      al.to_far,
+      al.none_in,
+    )))
     (λ h. omega arith) in (
       r2.net,
       record {
         distinct = λ v. split 1 (hits o (Some v))
-            (λ h. let e : times v t ≡ 0 = subst (λ (z : Option ℕ). knows z t ≡ 0) (hits-same o (Some v) h) new in omega (arith, e, r2.same v, hits-le o (Some v)))
+            (λ h. let e : times v t ≡ 0 = subst (λ (z : Option ℕ). knows z t ≡ 0) (hits-same o (Some v) h) new in
+            omega (arith, e, r2.same v, hits-le o (Some v)))
             (λ h. omega (arith, r2.same v, m.distinct v));
-        arcs = λ f. omega (arith, r2.arcs f, m.arcs f, r.was f, r.is f, two_first f (arc r.from r.one o) (arc o r.two r.to) r.rest, sum_by-cons (arc_weight f) (arc r.from r.new r.to) r.rest);
+        arcs = λ f. omega (
+          arith,
+          r2.arcs f,
+          m.arcs f,
+          r.was f,
+          r.is f,
+          two_first f (arc r.from r.one o) (arc o r.two r.to) r.rest,
+          sum_by-cons (arc_weight f) (arc r.from r.new r.to) r.rest,
+        );
       },
     )
 
@@ -127,7 +172,15 @@ forth-parallel before after r t m =
       few.net,
       record {
         distinct = λ v. omega (arith, few.same v, m.distinct v);
-        ends = λ h. omega (arith, few.counts h, m.ends h, r.was (λ p n q. h p q), r.is (λ p n q. h p q), counted-two h x y r.rest, sum_by-cons (arc_count h) (arc r.from r.new r.to) r.rest);
+        ends = λ h. omega (
+          arith,
+          few.counts h,
+          m.ends h,
+          r.was (λ p n q. h p q),
+          r.is (λ p n q. h p q),
+          counted-two h x y r.rest,
+          sum_by-cons (arc_count h) (arc r.from r.new r.to) r.rest,
+        );
       },
     )
 
@@ -142,7 +195,8 @@ module _ (before after : List Item) (r : IsSeries before after) (t : Net) (m : F
   there = omega (arith, into-known (Some r.task) None None t (omega (arith, m.ends (into (Some r.task)), r.one_in)))
 
   out : Without None None r.task t
-  out = take_out None None r.task t m.distinct refl refl there (m.ends (into (Some r.task)) ∙ r.one_in) (m.ends (out_of (Some r.task)) ∙ r.one_out)
+  out = take_out None None r.task t m.distinct refl refl there
+      (m.ends (into (Some r.task)) ∙ r.one_in) (m.ends (out_of (Some r.task)) ∙ r.one_out)
 
   ends_at : (h : Option ℕ → Option ℕ → ℕ) → count h None None t ≡ h r.from (Some r.task) + (h (Some r.task) r.to + counted h r.rest)
   ends_at h = m.ends h ∙ r.was (λ p n q. h p q) ∙ counted-two h (arc r.from r.one (Some r.task)) (arc (Some r.task) r.two r.to) r.rest
@@ -150,12 +204,32 @@ module _ (before after : List Item) (r : IsSeries before after) (t : Net) (m : F
   prev_is : r.from ≡ out.prev
   prev_is =
       let g = pair out.prev (Some r.task) in
-      hits-same r.from out.prev (omega (arith, out.counts g, ends_at g, hits-self (Some r.task), hits-self out.prev, out.far_next, al.to_far, al.none_in, counted-le g (into (Some r.task)) (λ x y. omega arith) r.rest))
+      hits-same r.from out.prev (omega (
+        arith,
+        out.counts g,
+        ends_at g,
+        hits-self (Some r.task),
+        hits-self out.prev,
+        out.far_next,
+        al.to_far,
+        al.none_in,
+        counted-le g (into (Some r.task)) (λ x y. omega arith) r.rest,
+      ))
 
   next_is : r.to ≡ out.next
   next_is =
       let g = pair (Some r.task) out.next in
-      hits-same r.to out.next (omega (arith, out.counts g, ends_at g, hits-self (Some r.task), hits-self out.next, out.far_prev, al.from_far, al.none_out, counted-le g (out_of (Some r.task)) (λ x y. omega arith) r.rest))
+      hits-same r.to out.next (omega (
+        arith,
+        out.counts g,
+        ends_at g,
+        hits-self (Some r.task),
+        hits-self out.next,
+        out.far_prev,
+        al.from_far,
+        al.none_out,
+        counted-le g (out_of (Some r.task)) (λ x y. omega arith) r.rest,
+      ))
 
   pub forth-series : (u : Net) × Fits u after
   forth-series = (
@@ -165,7 +239,8 @@ module _ (before after : List Item) (r : IsSeries before after) (t : Net) (m : F
       ends = λ h.
           let c : count h None None out.net + (h r.from (Some r.task) + h (Some r.task) r.to) ≡ count h None None t + h r.from r.to =
           subst (λ x. count h None None out.net + (h x (Some r.task) + h (Some r.task) r.to) ≡ count h None None t + h x r.to) (sym prev_is)
-          (subst (λ x. count h None None out.net + (h out.prev (Some r.task) + h (Some r.task) x) ≡ count h None None t + h out.prev x) (sym next_is) (out.counts h)) in
+          (subst (λ x. count h None None out.net + (h out.prev (Some r.task) + h (Some r.task) x) ≡ count h None None t + h out.prev x)
+          (sym next_is) (out.counts h)) in
           omega (arith, c, ends_at h, r.is (λ p n q. h p q), sum_by-cons (arc_count h) (arc r.from r.new r.to) r.rest);
     },
   )
@@ -201,6 +276,9 @@ forth graph rest (series_at {h = h} r row) t m = let z = forth-series graph h r 
 
 pub decides : (graph rest : List Item) → Row graph rest → IsIrreducible rest → Decides graph rest
 decides graph rest row ir = record {
-  yes = λ s. back graph rest row (hold s.0) (record { distinct = λ v. omega arith; arcs = λ f. rw (s.1) (sym (sum_by-cons (arc_weight f) (arc None s.0 None) [] ∙ omega arith)) });
+  yes = λ s. back graph rest row (hold s.0) (record {
+    distinct = λ v. omega arith;
+    arcs = λ f. rw (s.1) (sym (sum_by-cons (arc_weight f) (arc None s.0 None) [] ∙ omega arith));
+  });
   no = λ not_one t m. let z = forth graph rest row t (makes-fits t graph m) in not_one (ended rest ir z.0 z.1);
 }

@@ -1,5 +1,6 @@
 -- The state of a term after a list of tasks.
-use Rattle.std.proofs.Common.{◌≡◌, ℕ, suc, ◌+◌, ◌<◌, ◌≤◌, inl, inr, Bool, true, false, refl, arith, ◌∙◌, List, [], ◌∷◌, ◌++◌, Option, Some, cond}
+use Rattle.std.proofs.Common.{◌≡◌, ℕ, suc, ◌+◌, ◌<◌, ◌≤◌, inl, inr, Bool, true, false, refl}
+use Rattle.std.proofs.Common.{arith, ◌∙◌, List, [], ◌∷◌, ◌++◌, Option, Some, cond}
 use Rattle.std.specs.Prelude.{◌&&◌}
 use Rattle.std.proofs.lemmas.List.Sums.{sum_by-append, sum_by-cons}
 use Rattle.mp_system.specs.Memory.{stands_in}
@@ -22,7 +23,8 @@ abbrev mutual
   pub At : ℕ → List ℕ → (t : Term) → State t → Type 0
   At base done (hold size) s = Unit {0}
   At base done (series a v b) (inl s) = At base done a s × Fresh (base + task_count a) (suc (task_count b)) done
-  At base done (series a v b) (inr s) = (Ended base (task_count a) done × (stands_in done (own_number base a b) ≡ true)) × At (base + task_count a) done b s
+  At base done (series a v b) (inr s) =
+      (Ended base (task_count a) done × (stands_in done (own_number base a b) ≡ true)) × At (base + task_count a) done b s
   At base done (par ts) ss = AllAt base done ts ss
 
   pub AllAt : ℕ → List ℕ → (ts : Parts) → States ts → Type 0
@@ -41,18 +43,22 @@ held_one test item = sum_by-cons (size_if test) item [] ∙ plus_zero (cond (tes
     plus_zero n = omega arith
 
 mutual
-  pub held-fresh : (base : ℕ) (from to : Option ℕ) (done : List ℕ) (t : Term) → Fresh base (task_count t) done → done_or true done from ≡ false → size_where (is_there done) (items_of_term base from to t) ≡ 0
+  pub held-fresh : (base : ℕ) (from to : Option ℕ) (done : List ℕ) (t : Term) → Fresh base (task_count t) done
+      → done_or true done from ≡ false → size_where (is_there done) (items_of_term base from to t) ≡ 0
   held-fresh base from to done (hold size) h f = held_one (is_there done) (record { size = size; from = from; to = to }) ∙ rw f
   held-fresh base from to done (series a v b) h f =
-      held-append (is_there done) (items_of_term base from (Some (own_number base a b)) a) (items_of_term (base + task_count a) (Some (own_number base a b)) to b)
+      held-append (is_there done) (items_of_term base from (Some (own_number base a b)) a)
+      (items_of_term (base + task_count a) (Some (own_number base a b)) to b)
       ∙ omega (
         arith,
         held-fresh base from (Some (own_number base a b)) done a (λ w l m. h w l (omega arith)) f,
-        held-fresh (base + task_count a) (Some (own_number base a b)) to done b (λ w l m. h w (omega arith) (omega arith)) (h (own_number base a b) (omega arith) (omega arith)),
+        held-fresh (base + task_count a) (Some (own_number base a b)) to done b
+            (λ w l m. h w (omega arith) (omega arith)) (h (own_number base a b) (omega arith) (omega arith)),
       )
   held-fresh base from to done (par ts) h f = all_held-fresh base from to done ts h f
 
-  all_held-fresh : (base : ℕ) (from to : Option ℕ) (done : List ℕ) (ts : Parts) → Fresh base (task_count_of_parts ts) done → done_or true done from ≡ false → size_where (is_there done) (items_of_parts base from to ts) ≡ 0
+  all_held-fresh : (base : ℕ) (from to : Option ℕ) (done : List ℕ) (ts : Parts) → Fresh base (task_count_of_parts ts) done
+      → done_or true done from ≡ false → size_where (is_there done) (items_of_parts base from to ts) ≡ 0
   all_held-fresh base from to done no_parts h f = refl
   all_held-fresh base from to done (part t ts) h f =
       held-append (is_there done) (items_of_term base from to t) (items_of_parts (base + task_count t) from to ts)
@@ -67,18 +73,23 @@ none_left true n = refl
 none_left false n = refl
 
 mutual
-  pub held-ended : (base : ℕ) (from to : Option ℕ) (done : List ℕ) (t : Term) → Ended base (task_count t) done → done_or false done to ≡ true → size_where (is_there done) (items_of_term base from to t) ≡ 0
-  held-ended base from to done (hold size) h f = held_one (is_there done) (record { size = size; from = from; to = to }) ∙ rw f (none_left (done_or true done from) size)
+  pub held-ended : (base : ℕ) (from to : Option ℕ) (done : List ℕ) (t : Term) → Ended base (task_count t) done
+      → done_or false done to ≡ true → size_where (is_there done) (items_of_term base from to t) ≡ 0
+  held-ended base from to done (hold size) h f =
+      held_one (is_there done) (record { size = size; from = from; to = to }) ∙ rw f (none_left (done_or true done from) size)
   held-ended base from to done (series a v b) h f =
-      held-append (is_there done) (items_of_term base from (Some (own_number base a b)) a) (items_of_term (base + task_count a) (Some (own_number base a b)) to b)
+      held-append (is_there done) (items_of_term base from (Some (own_number base a b)) a)
+      (items_of_term (base + task_count a) (Some (own_number base a b)) to b)
       ∙ omega (
         arith,
-        held-ended base from (Some (own_number base a b)) done a (λ w l m. h w l (omega arith)) (h (own_number base a b) (omega arith) (omega arith)),
+        held-ended base from (Some (own_number base a b)) done a
+            (λ w l m. h w l (omega arith)) (h (own_number base a b) (omega arith) (omega arith)),
         held-ended (base + task_count a) (Some (own_number base a b)) to done b (λ w l m. h w (omega arith) (omega arith)) f,
       )
   held-ended base from to done (par ts) h f = all_held-ended base from to done ts h f
 
-  all_held-ended : (base : ℕ) (from to : Option ℕ) (done : List ℕ) (ts : Parts) → Ended base (task_count_of_parts ts) done → done_or false done to ≡ true → size_where (is_there done) (items_of_parts base from to ts) ≡ 0
+  all_held-ended : (base : ℕ) (from to : Option ℕ) (done : List ℕ) (ts : Parts) → Ended base (task_count_of_parts ts) done
+      → done_or false done to ≡ true → size_where (is_there done) (items_of_parts base from to ts) ≡ 0
   all_held-ended base from to done no_parts h f = refl
   all_held-ended base from to done (part t ts) h f =
       held-append (is_there done) (items_of_term base from to t) (items_of_parts (base + task_count t) from to ts)
@@ -89,17 +100,21 @@ mutual
       )
 
 mutual
-  pub held-at : (base : ℕ) (from to : Option ℕ) (done : List ℕ) (t : Term) (s : State t) → At base done t s → done_or true done from ≡ true → done_or false done to ≡ false → size_where (is_there done) (items_of_term base from to t) ≡ memory_of t s
+  pub held-at : (base : ℕ) (from to : Option ℕ) (done : List ℕ) (t : Term) (s : State t) → At base done t s → done_or true done from ≡ true
+      → done_or false done to ≡ false → size_where (is_there done) (items_of_term base from to t) ≡ memory_of t s
   held-at base from to done (hold size) s h f g = held_one (is_there done) (record { size = size; from = from; to = to }) ∙ rw (f, g)
   held-at base from to done (series a v b) (inl s) (h, k) f g =
-      held-append (is_there done) (items_of_term base from (Some (own_number base a b)) a) (items_of_term (base + task_count a) (Some (own_number base a b)) to b)
+      held-append (is_there done) (items_of_term base from (Some (own_number base a b)) a)
+      (items_of_term (base + task_count a) (Some (own_number base a b)) to b)
       ∙ omega (
         arith,
         held-at base from (Some (own_number base a b)) done a s h f (k (own_number base a b) (omega arith) (omega arith)),
-        held-fresh (base + task_count a) (Some (own_number base a b)) to done b (λ w l m. k w (omega arith) (omega arith)) (k (own_number base a b) (omega arith) (omega arith)),
+        held-fresh (base + task_count a) (Some (own_number base a b)) to done b
+            (λ w l m. k w (omega arith) (omega arith)) (k (own_number base a b) (omega arith) (omega arith)),
       )
   held-at base from to done (series a v b) (inr s) (k, h) f g =
-      held-append (is_there done) (items_of_term base from (Some (own_number base a b)) a) (items_of_term (base + task_count a) (Some (own_number base a b)) to b)
+      held-append (is_there done) (items_of_term base from (Some (own_number base a b)) a)
+      (items_of_term (base + task_count a) (Some (own_number base a b)) to b)
       ∙ omega (
         arith,
         held-ended base from (Some (own_number base a b)) done a k.0 k.1,
@@ -107,7 +122,9 @@ mutual
       )
   held-at base from to done (par ts) ss h f g = all_held-at base from to done ts ss h f g
 
-  all_held-at : (base : ℕ) (from to : Option ℕ) (done : List ℕ) (ts : Parts) (ss : States ts) → AllAt base done ts ss → done_or true done from ≡ true → done_or false done to ≡ false → size_where (is_there done) (items_of_parts base from to ts) ≡ memory_of_parts ts ss
+  all_held-at : (base : ℕ) (from to : Option ℕ) (done : List ℕ) (ts : Parts) (ss : States ts)
+      → AllAt base done ts ss → done_or true done from ≡ true → done_or false done to ≡ false
+      → size_where (is_there done) (items_of_parts base from to ts) ≡ memory_of_parts ts ss
   all_held-at base from to done no_parts ss h f g = refl
   all_held-at base from to done (part t ts) (s, ss) (h, k) f g =
       held-append (is_there done) (items_of_term base from to t) (items_of_parts (base + task_count t) from to ts)

@@ -11,38 +11,50 @@ use Rattle.lists.proofs.Bools.{eqb_same}
 
 -- each item is made by one of the term's tasks, or outside
 mutual
-  pub producers : (base : ℕ) (from to : Option ℕ) (t : Term) (item : Item) → In item (items_of_term base from to t) → Near base (task_count t) from item.from
+  pub producers : (base : ℕ) (from to : Option ℕ) (t : Term) (item : Item)
+      → In item (items_of_term base from to t) → Near base (task_count t) from item.from
   producers base from to (hold size) item (inl e) = outside (ap (λ i. i.from) e)
   producers base from to (hold size) item (inr e) = absurd e
   producers base from to (series a w b) item l =
-      elim (in_split item (items_of_term base from (Some (own_number base a b)) a) (items_of_term (base + task_count a) (Some (own_number base a b)) to b) l) [
-        | inl k ↦ near_wider base (task_count a) base (suc (task_count a + task_count b)) from item.from (omega arith) (omega arith) (producers base from (Some (own_number base a b)) a item k)
-        | inr k ↦ near_within (base + task_count a) (task_count b) base (suc (task_count a + task_count b)) (own_number base a b) from item.from (omega arith) (omega arith) (omega arith) (omega arith)
+      elim (in_split item (items_of_term base from (Some (own_number base a b)) a)
+      (items_of_term (base + task_count a) (Some (own_number base a b)) to b) l) [
+        | inl k ↦ near_wider base (task_count a) base (suc (task_count a + task_count b)) from item.from
+            (omega arith) (omega arith) (producers base from (Some (own_number base a b)) a item k)
+        | inr k ↦ near_within (base + task_count a) (task_count b) base (suc (task_count a + task_count b))
+            (own_number base a b) from item.from (omega arith) (omega arith) (omega arith) (omega arith)
             (producers (base + task_count a) (Some (own_number base a b)) to b item k)
       ]
   producers base from to (par ts) item l = all_producers base from to ts item l
 
-  pub all_producers : (base : ℕ) (from to : Option ℕ) (ts : Parts) (item : Item) → In item (items_of_parts base from to ts) → Near base (task_count_of_parts ts) from item.from
+  pub all_producers : (base : ℕ) (from to : Option ℕ) (ts : Parts) (item : Item)
+      → In item (items_of_parts base from to ts) → Near base (task_count_of_parts ts) from item.from
   all_producers base from to no_parts item l = absurd l
   all_producers base from to (part t ts) item l =
       elim (in_split item (items_of_term base from to t) (items_of_parts (base + task_count t) from to ts) l) [
-        | inl k ↦ near_wider base (task_count t) base (task_count t + task_count_of_parts ts) from item.from (omega arith) (omega arith) (producers base from to t item k)
-        | inr k ↦ near_wider (base + task_count t) (task_count_of_parts ts) base (task_count t + task_count_of_parts ts) from item.from (omega arith) (omega arith) (all_producers (base + task_count t) from to ts item k)
+        | inl k ↦ near_wider base (task_count t) base (task_count t + task_count_of_parts ts) from item.from
+            (omega arith) (omega arith) (producers base from to t item k)
+        | inr k ↦ near_wider (base + task_count t) (task_count_of_parts ts) base (task_count t + task_count_of_parts ts) from item.from
+            (omega arith) (omega arith) (all_producers (base + task_count t) from to ts item k)
       ]
 
 -- a own_number that is none of the term's tasks, and takes nothing outside, consumes none of its items
 mutual
-  pub no_consumer : (base : ℕ) (from to : Option ℕ) (t : Term) (v : ℕ) → Apart base (task_count t) v → is_named to v ≡ false → (item : Item) → In item (items_of_term base from to t) → item.to ≡ Some v → ⊥
-  no_consumer base from to (hold size) v o f item (inl e) h = clash (sym (eqb_same v) ∙ ap (λ x. is_named x v) (sym h ∙ ap (λ i. i.to) e) ∙ f)
+  pub no_consumer : (base : ℕ) (from to : Option ℕ) (t : Term) (v : ℕ) → Apart base (task_count t) v
+      → is_named to v ≡ false → (item : Item) → In item (items_of_term base from to t) → item.to ≡ Some v → ⊥
+  no_consumer base from to (hold size) v o f item (inl e) h =
+      clash (sym (eqb_same v) ∙ ap (λ x. is_named x v) (sym h ∙ ap (λ i. i.to) e) ∙ f)
   no_consumer base from to (hold size) v o f item (inr e) h = absurd e
   no_consumer base from to (series a w b) v o f item l h =
-      elim (in_split item (items_of_term base from (Some (own_number base a b)) a) (items_of_term (base + task_count a) (Some (own_number base a b)) to b) l) [
-        | inl k ↦ no_consumer base from (Some (own_number base a b)) a v (λ z. omega arith) (ne-eqb (own_number base a b) v (λ e. omega arith)) item k h
+      elim (in_split item (items_of_term base from (Some (own_number base a b)) a)
+      (items_of_term (base + task_count a) (Some (own_number base a b)) to b) l) [
+        | inl k ↦ no_consumer base from (Some (own_number base a b)) a v
+            (λ z. omega arith) (ne-eqb (own_number base a b) v (λ e. omega arith)) item k h
         | inr k ↦ no_consumer (base + task_count a) (Some (own_number base a b)) to b v (λ z. omega arith) f item k h
       ]
   no_consumer base from to (par ts) v o f item l h = all_no_consumer base from to ts v o f item l h
 
-  pub all_no_consumer : (base : ℕ) (from to : Option ℕ) (ts : Parts) (v : ℕ) → Apart base (task_count_of_parts ts) v → is_named to v ≡ false → (item : Item) → In item (items_of_parts base from to ts) → item.to ≡ Some v → ⊥
+  pub all_no_consumer : (base : ℕ) (from to : Option ℕ) (ts : Parts) (v : ℕ) → Apart base (task_count_of_parts ts) v
+      → is_named to v ≡ false → (item : Item) → In item (items_of_parts base from to ts) → item.to ≡ Some v → ⊥
   all_no_consumer base from to no_parts v o f item l h = l
   all_no_consumer base from to (part t ts) v o f item l h =
       elim (in_split item (items_of_term base from to t) (items_of_parts (base + task_count t) from to ts) l) [

@@ -1,5 +1,6 @@
 -- Every state of a term stands after some of its tasks, and whatever was done can be completed.
-use Rattle.std.proofs.Common.{◌≡◌, ℕ, ◌+◌, ◌≤◌, inl, inr, Bool, true, false, cond, refl, sym, subst, ap, arith, ◌∙◌, List, [], ◌∷◌, ◌++◌, length, append_assoc, Option, Some, None}
+use Rattle.std.proofs.Common.{◌≡◌, ℕ, ◌+◌, ◌≤◌, inl, inr, Bool, true, false, cond, refl, sym, subst, ap}
+use Rattle.std.proofs.Common.{arith, ◌∙◌, List, [], ◌∷◌, ◌++◌, length, append_assoc, Option, Some, None}
 use Rattle.std.specs.Prelude.{◌==◌, ◌||◌, not, All}
 use Rattle.std.specs.List.{count_by, list_all}
 use Rattle.std.proofs.lemmas.Bool.{eqb-true}
@@ -26,11 +27,15 @@ named_some None v e = absurd cc
 named_some (Some u) v e = ap Some (eqb-true u v e)
 
 -- a task is ready where each producer of what it consumes is done
-items-ready : (done : ℕ → Bool) (items : List Item) (v : ℕ) → ((item : Item) → In item items → item.to ≡ Some v → is_produced done item ≡ true)
+items-ready : (done : ℕ → Bool) (items : List Item) (v : ℕ)
+    → ((item : Item) → In item items → item.to ≡ Some v → is_produced done item ≡ true)
     → list_all (λ item. not (is_input v item) || is_produced done item) items ≡ true
 items-ready done [] v h = refl
 items-ready done (x ∷ xs) v h =
-    rw (no_input (is_input v x) (is_produced done x) (λ e. h x (inl refl) (named_some x.to v e)), items-ready done xs v (λ item l. h item (inr l))) refl
+    rw (
+      no_input (is_input v x) (is_produced done x) (λ e. h x (inl refl) (named_some x.to v e)),
+      items-ready done xs v (λ item l. h item (inr l)),
+    ) refl
 
 legal-tasks : (s : TaskSystem) (done rest : List ℕ) → IsLegal (length s.tasks) s.items done rest → All (IsTask s) rest
 legal-tasks s done [] h = All-nil (IsTask s)
@@ -49,19 +54,25 @@ counted count all done (x ∷ rest) v (m, n, r, l) =
     (λ k. let same : x ≡ v = grind arith in
     let zero_rest = y.done_before (subst (λ z. stands_in (done ++ x ∷ []) z ≡ true) same (has-new done x)) in
     let e' = e ∙ ap (λ b. cond b 1 0 + count_by (λ z. z == v) rest) k in
-    record { once = omega (arith, e', zero_rest); done_before = λ h. absurd (clash (sym h ∙ subst (λ z. stands_in done z ≡ false) same n)) })
+    record {
+      once = omega (arith, e', zero_rest);
+      done_before = λ h. absurd (clash (sym h ∙ subst (λ z. stands_in done z ≡ false) same n));
+    })
     (λ k. let e' = e ∙ ap (λ b. cond b 1 0 + count_by (λ z. z == v) rest) k in
     record { once = omega (arith, e', y.once); done_before = λ h. omega (arith, e', y.done_before (has-more done x v h)) })
 
-pub legal_traversal : (s : TaskSystem) (order : List ℕ) → IsLegal (length s.tasks) s.items [] order → Ended 1 (length s.tasks) order → IsTraversal s order
+pub legal_traversal : (s : TaskSystem) (order : List ℕ)
+    → IsLegal (length s.tasks) s.items [] order → Ended 1 (length s.tasks) order → IsTraversal s order
 legal_traversal s order h e = record {
-  once = λ v range. let c = counted (length s.tasks) s.items [] order v h in omega (arith, c.once, has-count order v (e v range.0 (omega (arith, range.1))));
+  once = λ v range. let c = counted (length s.tasks) s.items [] order v h in
+      omega (arith, c.once, has-count order v (e v range.0 (omega (arith, range.1))));
   tasks = legal-tasks s [] order h;
   after_suppliers = λ before rest v eq.
       let k = legal_split (length s.tasks) s.items [] before (v ∷ rest) (subst (IsLegal (length s.tasks) s.items []) eq h) in
       items-ready (stands_in before) s.items v k.1.2;
 }
 
-pub legal_append : (count : ℕ) (all : List Item) (done p q : List ℕ) → IsLegal count all done p → IsLegal count all (done ++ p) q → IsLegal count all done (p ++ q)
+pub legal_append : (count : ℕ) (all : List Item) (done p q : List ℕ)
+    → IsLegal count all done p → IsLegal count all (done ++ p) q → IsLegal count all done (p ++ q)
 legal_append count all done [] q h k = rw append-nil at k
 legal_append count all done (v ∷ p) q (m, n, r, h) k = (m, n, r, legal_append count all (done ++ v ∷ []) p q h (rw append_assoc k))

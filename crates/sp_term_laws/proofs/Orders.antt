@@ -1,5 +1,6 @@
 -- A traversal of a term's system is a walk through the term.
-use Rattle.std.proofs.Common.{◌≡◌, ℕ, suc, ◌+◌, ◌≤◌, inl, inr, Bool, true, false, cond, refl, sym, subst, ap, arith, ◌∙◌, List, [], ◌∷◌, ◌++◌, length, length-append, Option, Some, None, eq-eqb, append_assoc}
+use Rattle.std.proofs.Common.{◌≡◌, ℕ, suc, ◌+◌, ◌≤◌, inl, inr, Bool, true, false, cond, refl, sym, subst, ap, arith, ◌∙◌}
+use Rattle.std.proofs.Common.{List, [], ◌∷◌, ◌++◌, length, length-append, Option, Some, None, eq-eqb, append_assoc}
 use Rattle.std.specs.Prelude.{◌==◌, ◌||◌, ◌&&◌, not, All}
 use Rattle.std.specs.List.{count_by, list_all}
 use Rattle.std.proofs.Math.Seq.{get_or-append_seam}
@@ -21,7 +22,8 @@ use Rattle.sp_term_laws.proofs.Next.{Ready, fresh-at}
 -- each task in turn is new, and its producers are done
 abbrev pub IsLegal : ℕ → List Item → List ℕ → List ℕ → Type 0
 IsLegal count all done [] = Unit {0}
-IsLegal count all done (v ∷ rest) = ((1 ≤ v) × (v ≤ count)) × (stands_in done v ≡ false) × Ready done all v × IsLegal count all (done ++ v ∷ []) rest
+IsLegal count all done (v ∷ rest) =
+    ((1 ≤ v) × (v ≤ count)) × (stands_in done v ≡ false) × Ready done all v × IsLegal count all (done ++ v ∷ []) rest
 
 -- an element within a list
 pub all-here : (P : ℕ → Type 0) (done rest : List ℕ) (v : ℕ) → All P (done ++ v ∷ rest) → P v
@@ -36,18 +38,22 @@ and-true : (x y : Bool) → (x && y) ≡ true → (x ≡ true) × (y ≡ true)
 and-true true y e = (refl, e)
 and-true false y e = absurd cc
 
-pub ready-items : (done : ℕ → Bool) (items : List Item) (v : ℕ) → list_all (λ item. not (is_input v item) || is_produced done item) items ≡ true → (item : Item) → In item items → item.to ≡ Some v → is_produced done item ≡ true
+pub ready-items : (done : ℕ → Bool) (items : List Item) (v : ℕ)
+    → list_all (λ item. not (is_input v item) || is_produced done item) items ≡ true
+    → (item : Item) → In item items → item.to ≡ Some v → is_produced done item ≡ true
 ready-items done [] v h item l to = absurd l
 ready-items done (x ∷ xs) v h item (inl e) to =
     subst (λ (i : Item). is_produced done i ≡ true) (sym e)
-    (supplied (is_input v x) (is_produced done x) (ap (λ (o : Option ℕ). is_named o v) (sym (ap (λ (i : Item). i.to) e) ∙ to) ∙ eq-eqb v v refl) (and-true _ _ h).0)
+    (supplied (is_input v x) (is_produced done x)
+    (ap (λ (o : Option ℕ). is_named o v) (sym (ap (λ (i : Item). i.to) e) ∙ to) ∙ eq-eqb v v refl) (and-true _ _ h).0)
 ready-items done (x ∷ xs) v h item (inr l) to = ready-items done xs v (and-true _ _ h).1 item l to
 
 pub has-count : (done : List ℕ) (v : ℕ) → stands_in done v ≡ true → 1 ≤ count_by (λ x. x == v) done
 has-count [] v h = absurd (clash (sym h))
 has-count (x ∷ xs) v h = rw (sum_by-cons (λ y. cond (y == v) 1 0) x xs) (go (x == v) (has-count xs v) h)
   where
-    go : (b : Bool) → (stands_in xs v ≡ true → 1 ≤ count_by (λ y. y == v) xs) → (b || stands_in xs v) ≡ true → 1 ≤ cond b 1 0 + count_by (λ y. y == v) xs
+    go : (b : Bool) → (stands_in xs v ≡ true → 1 ≤ count_by (λ y. y == v) xs)
+        → (b || stands_in xs v) ≡ true → 1 ≤ cond b 1 0 + count_by (λ y. y == v) xs
     go true k h' = omega arith
     go false k h' = omega (arith, k h')
 
@@ -55,11 +61,13 @@ pub count-has : (done : List ℕ) (v : ℕ) → 1 ≤ count_by (λ x. x == v) do
 count-has [] v h = absurd (omega arith)
 count-has (x ∷ xs) v h = go (x == v) (count-has xs v) (rw (sum_by-cons (λ y. cond (y == v) 1 0) x xs) at h)
   where
-    go : (b : Bool) → (1 ≤ count_by (λ y. y == v) xs → stands_in xs v ≡ true) → 1 ≤ cond b 1 0 + count_by (λ y. y == v) xs → (b || stands_in xs v) ≡ true
+    go : (b : Bool) → (1 ≤ count_by (λ y. y == v) xs → stands_in xs v ≡ true)
+        → 1 ≤ cond b 1 0 + count_by (λ y. y == v) xs → (b || stands_in xs v) ≡ true
     go true k h' = refl
     go false k h' = k (omega arith)
 
-count-here : (done rest : List ℕ) (v : ℕ) → count_by (λ x. x == v) (done ++ v ∷ rest) ≡ count_by (λ x. x == v) done + suc (count_by (λ x. x == v) rest)
+count-here : (done rest : List ℕ) (v : ℕ)
+    → count_by (λ x. x == v) (done ++ v ∷ rest) ≡ count_by (λ x. x == v) done + suc (count_by (λ x. x == v) rest)
 count-here done rest v =
     let a = sum_by-append (λ y. cond (y == v) 1 0) done (v ∷ rest) in
     let b = sum_by-cons (λ y. cond (y == v) 1 0) v rest ∙ ap (λ x. cond x 1 0 + count_by (λ y. y == v) rest) (eq-eqb v v refl) in
@@ -88,7 +96,8 @@ module _ (s : TaskSystem) (order : List ℕ) (t : IsTraversal s order) where
   pub traversal-ended : Ended 1 (length s.tasks) order
   traversal-ended v l m = count-has order v (omega (arith, t.once v (l, omega arith)))
 
-pub legal_split : (count : ℕ) (all : List Item) (done p q : List ℕ) → IsLegal count all done (p ++ q) → IsLegal count all done p × IsLegal count all (done ++ p) q
+pub legal_split : (count : ℕ) (all : List Item) (done p q : List ℕ)
+    → IsLegal count all done (p ++ q) → IsLegal count all done p × IsLegal count all (done ++ p) q
 legal_split count all done [] q h = (tt, rw append-nil h)
 legal_split count all done (v ∷ p) q (a, b, c, h) =
     let r = legal_split count all (done ++ v ∷ []) p q h in
@@ -101,13 +110,17 @@ memory-le-top s done [] = omega arith
 memory-le-top s done (v ∷ rest) = omega arith
 
 mutual
-  pub ended_last : (base : ℕ) (done : List ℕ) (t : Term) (s : State t) → At base done t s → Ended base (task_count t) done → s ≡ first_state backward t
+  pub ended_last : (base : ℕ) (done : List ℕ) (t : Term) (s : State t)
+      → At base done t s → Ended base (task_count t) done → s ≡ first_state backward t
   ended_last base done (hold size) s h e = refl
-  ended_last base done (series a w b) (inl s) (h, k) e = absurd (clash (sym (e (own_number base a b) (omega arith) (omega arith)) ∙ k (own_number base a b) (omega arith) (omega arith)))
-  ended_last base done (series a w b) (inr s) (k, h) e = ap inr (ended_last (base + task_count a) done b s h (λ u l m. e u (omega arith) (omega arith)))
+  ended_last base done (series a w b) (inl s) (h, k) e =
+      absurd (clash (sym (e (own_number base a b) (omega arith) (omega arith)) ∙ k (own_number base a b) (omega arith) (omega arith)))
+  ended_last base done (series a w b) (inr s) (k, h) e =
+      ap inr (ended_last (base + task_count a) done b s h (λ u l m. e u (omega arith) (omega arith)))
   ended_last base done (par ts) ss h e = all_ended_last base done ts ss h e
 
-  pub all_ended_last : (base : ℕ) (done : List ℕ) (ts : Parts) (ss : States ts) → AllAt base done ts ss → Ended base (task_count_of_parts ts) done → ss ≡ first_states backward ts
+  pub all_ended_last : (base : ℕ) (done : List ℕ) (ts : Parts) (ss : States ts)
+      → AllAt base done ts ss → Ended base (task_count_of_parts ts) done → ss ≡ first_states backward ts
   all_ended_last base done no_parts ss h e = refl
   all_ended_last base done (part t ts) (s, ss) (h, k) e =
       let p = ended_last base done t s h (λ u l m. e u l (omega arith)) in

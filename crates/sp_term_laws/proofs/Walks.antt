@@ -1,8 +1,10 @@
 -- What holds of the states of a term and of the walks through them.
 use Rattle.std.proofs.Common.{◌≡◌, ℕ, ◌+◌, ◌<◌, ◌≤◌, inl, inr, refl, sym, subst, ap, arith, ◌∙◌}
-use Rattle.sp_terms.specs.Term.{Term, hold, series, par, Parts, no_parts, part, Direction, forward, backward, first_memory, first_memory_of_parts, least_of, least_of_parts}
+use Rattle.sp_terms.specs.Term.{Term, hold, series, par, Parts, no_parts, part, Direction, forward, backward}
+use Rattle.sp_terms.specs.Term.{first_memory, first_memory_of_parts, least_of, least_of_parts}
 use Rattle.sp_term_laws.specs.Moves.{other}
-use Rattle.sp_term_laws.specs.Moves.{State, States, memory_of, memory_of_parts, first_state, first_states, Step, Steps, Reached, begin, next}
+use Rattle.sp_term_laws.specs.Moves.{State, States, memory_of, memory_of_parts, first_state}
+use Rattle.sp_term_laws.specs.Moves.{first_states, Step, Steps, Reached, begin, next}
 
 mutual
   pub least-le : (t : Term) (s : State t) → least_of t ≤ memory_of t s
@@ -38,7 +40,8 @@ mutual
   flipped d (series a v b) (inr s) r (inr s') h = flipped d b s r s' h
   flipped d (par ts) ss r ss' h = all_flipped d ts ss r ss' h
 
-  pub all_flipped : (d : Direction) (ts : Parts) (ss : States ts) (r : ℕ) (ss' : States ts) → Steps d ts ss r ss' → Steps (other d) ts ss' r ss
+  pub all_flipped : (d : Direction) (ts : Parts) (ss : States ts) (r : ℕ) (ss' : States ts)
+      → Steps d ts ss r ss' → Steps (other d) ts ss' r ss
   all_flipped d no_parts ss r ss' h = absurd h
   all_flipped d (part t ts) (s, ss) r (s', ss') (inl (e, (q, h, k))) =
       inl (sym e, (q, flipped d t s q s' h, k ∙ ap (λ x. q + memory_of_parts ts x) e))
@@ -55,10 +58,12 @@ below (begin h) = h
 below (next w step r m) = m
 
 -- what is reached from both sides lies on a whole run
-whole_from : (d : Direction) {e : Direction} {t : Term} {limit : ℕ} {s : State t} → e ≡ other d → Reached d t limit s → Reached e t limit s → Reached d t limit (first_state e t)
+whole_from : (d : Direction) {e : Direction} {t : Term} {limit : ℕ} {s : State t}
+    → e ≡ other d → Reached d t limit s → Reached e t limit s → Reached d t limit (first_state e t)
 whole_from d same w (begin h) = w
 whole_from d {e} {t} same w (next {s} {s'} {r} back step lt m) =
     whole_from d same (next w (back_step d t s r s' (subst (λ x. Step x t s r s') same step)) lt (below back)) back
 
-pub whole : (d : Direction) (t : Term) (limit : ℕ) → Reached (other d) t limit (first_state d t) → Reached d t limit (first_state (other d) t)
+pub whole : (d : Direction) (t : Term) (limit : ℕ)
+    → Reached (other d) t limit (first_state d t) → Reached d t limit (first_state (other d) t)
 whole d t limit back = whole_from d refl (begin (below back)) back

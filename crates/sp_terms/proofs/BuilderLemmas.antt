@@ -1,5 +1,6 @@
 -- What a builder keeps, one position further.
-use Rattle.std.proofs.Common.{◌≡◌, ℕ, zero, suc, ◌+◌, ◌-◌, ◌≤◌, false, refl, sym, subst, ap, arith, ◌∙◌, List, [], ◌∷◌, ◌++◌, length, length-append, take, drop, get_or, Some, None, append_assoc, length-take, slice_set}
+use Rattle.std.proofs.Common.{◌≡◌, ℕ, zero, suc, ◌+◌, ◌-◌, ◌≤◌, false, refl, sym, subst, ap, arith, ◌∙◌, List, [], ◌∷◌, ◌++◌}
+use Rattle.std.proofs.Common.{length, length-append, take, drop, get_or, Some, None, append_assoc, length-take, slice_set}
 use Rattle.std.specs.Prelude.{◌||◌, nat_lt, if◌then◌else◌, option_and_then}
 use Rattle.std.specs.List.{sum_by}
 use Rattle.std.proofs.lemmas.List.{append-nil, take-take, take_rest, get_or_read}
@@ -13,11 +14,13 @@ use Rattle.sp_terms.specs.declared.position.Position.TheVariants as at
 use Rattle.sp_terms.specs.declared.builder.Ends.{Ends}
 use Rattle.limits.specs.Limits.{most_tasks, most_positions, most_total}
 use Rattle.sp_terms.specs.declared.builder.PushRefusal.TheVariants.{Short}
-use Rattle.sp_terms.specs.Term.{Term, hold, series, par, Parts, no_parts, part, count, forward, backward, first_memory, first_memory_of_parts, AreAllowed}
+use Rattle.sp_terms.specs.Term.{Term, hold, series, par, Parts, no_parts, part, count, forward}
+use Rattle.sp_terms.specs.Term.{backward, first_memory, first_memory_of_parts, AreAllowed}
 use Rattle.sp_terms.specs.Postfix.{gather, push, push_all, postfix}
 use Rattle.sp_terms.specs.Values.{stack_from, stack_of, last_term, Leaves, IsTerms, AllAllowed, IsWithinLimits, added_tasks, added_size}
 use Rattle.sp_terms.specs.Builder.{IsPosition, is_short, passed_limit, limit_of, is_overshared, share_refusal, limit_or, refusal_of}
-use Rattle.sp_terms.specs.Ends.{ends_of, all_ends, IsBuilder, initial_at, fin_at, no_ends, beside, par_ends, series_ends, next_ends, over_ends}
+use Rattle.sp_terms.specs.Ends.{ends_of, all_ends, IsBuilder, initial_at, fin_at, no_ends}
+use Rattle.sp_terms.specs.Ends.{beside, par_ends, series_ends, next_ends, over_ends}
 use Rattle.sp_terms.proofs.Stacks.{onto, Pushed, held, ran, beside as abreast, pushed, push_then, stack_postfix, all_pushed}
 use Rattle.sp_terms.proofs.Standing.{stack_few}
 use Rattle.sp_terms.proofs.ValuesLemmas.{first-le-weight}
@@ -48,7 +51,8 @@ set_last (x ∷ (y ∷ xs)) zero v e = absurd (omega (arith, e))
 set_last (x ∷ xs) (suc n) v e = ap (λ z. x ∷ z) (set_last xs n v (omega (arith, e)))
 
 -- what was cut after a place, and that place set
-pub cut_set : {A : Type 0} (xs cut : List A) (n m : ℕ) (v : A) → m ≡ suc n → m ≤ length xs → cut ≡ take m xs → slice_set cut n v ≡ take n xs ++ v ∷ []
+pub cut_set : {A : Type 0} (xs cut : List A) (n m : ℕ) (v : A) → m ≡ suc n
+    → m ≤ length xs → cut ≡ take m xs → slice_set cut n v ≡ take n xs ++ v ∷ []
 cut_set xs cut n m v e le c =
     let cut_is : cut ≡ take (suc n) xs = c ∙ ap (λ k. take k xs) e in
     ap (λ z. slice_set z n v) cut_is
@@ -96,9 +100,11 @@ list-fin (part t ts) = sum_by-cons fin_at (ends_of t) (ends_list ts) ∙ ap (λ 
 par-ends : (xs ys : List Ends) (k : ℕ) → length ys ≡ k → par_ends (xs ++ ys) k ≡ xs ++ beside ys ∷ []
 par-ends xs ys k e =
     let n : length (xs ++ ys) - k ≡ length xs = omega (arith, length-append xs ys, e) in
-    (λ i. take (n i) (xs ++ ys) ++ beside (drop (n i) (xs ++ ys)) ∷ []) ∙ (λ i. take-append_seam xs ys i ++ beside (drop-append_seam xs ys i) ∷ [])
+    (λ i. take (n i) (xs ++ ys) ++ beside (drop (n i) (xs ++ ys)) ∷ [])
+    ∙ (λ i. take-append_seam xs ys i ++ beside (drop-append_seam xs ys i) ∷ [])
 
-series-ends : (xs : List Ends) (a b : Ends) → series_ends ((xs ++ a ∷ []) ++ b ∷ []) ≡ xs ++ record { initial = a.initial; fin = b.fin } ∷ []
+series-ends : (xs : List Ends) (a b : Ends)
+    → series_ends ((xs ++ a ∷ []) ++ b ∷ []) ≡ xs ++ record { initial = a.initial; fin = b.fin } ∷ []
 series-ends xs a b =
     let all = (xs ++ a ∷ []) ++ b ∷ [] in
     let same : all ≡ xs ++ a ∷ (b ∷ []) = append_assoc xs (a ∷ []) (b ∷ []) in
@@ -106,7 +112,8 @@ series-ends xs a b =
     let m : length all - 1 ≡ length (xs ++ a ∷ []) = omega (arith, length-append (xs ++ a ∷ []) (b ∷ [])) in
     let low : take (length all - 2) all ≡ xs = (λ i. take (n i) (same i)) ∙ take-append_seam xs (a ∷ (b ∷ [])) in
     let first : get_or all (length all - 2) no_ends ≡ a = (λ i. get_or (same i) (n i) no_ends) ∙ get_or-append_seam xs a (b ∷ []) no_ends in
-    let last : get_or all (length all - 1) no_ends ≡ b = ap (λ k. get_or all k no_ends) m ∙ get_or-append_seam (xs ++ a ∷ []) b [] no_ends in
+    let last : get_or all (length all - 1) no_ends ≡ b =
+    ap (λ k. get_or all k no_ends) m ∙ get_or-append_seam (xs ++ a ∷ []) b [] no_ends in
     λ i. low i ++ record { initial = (first i).initial; fin = (last i).fin } ∷ []
 
 pub ends_push : (p : Position) (stack out : List Term) → Pushed p stack out → next_ends p (all_ends stack) ≡ all_ends out
@@ -122,13 +129,15 @@ onto-good : (ts : Parts) (stack : List Term) → AllAllowed (onto ts stack) → 
 onto-good no_parts stack h = (tt, h)
 onto-good (part t ts) stack h = let k = onto-good ts (t ∷ stack) h in ((k.1.0, k.0), k.1.1)
 
-good_push : (p : Position) (stack out : List Term) → Pushed p stack out → IsPosition p → is_overshared p stack ≡ false → AllAllowed stack → AllAllowed out
+good_push : (p : Position) (stack out : List Term) → Pushed p stack out
+    → IsPosition p → is_overshared p stack ≡ false → AllAllowed stack → AllAllowed out
 good_push p stack out (held size st) a o g = (tt, g)
 good_push p stack out (ran v x b st) a o g =
     let k = or_parts _ _ o in ((ltb-false _ _ k.0, ltb-false _ _ k.1, g.1.0, g.0), g.1.1)
 good_push p stack out (abreast ts st f) a o g = let k = onto-good ts st g in ((a, k.0), k.1)
 
-pub over_same : (p : Position) (stack : List Term) → is_short (length stack) p ≡ false → over_ends (all_ends stack) p ≡ is_overshared p stack
+pub over_same : (p : Position) (stack : List Term) → is_short (length stack) p ≡ false
+    → over_ends (all_ends stack) p ≡ is_overshared p stack
 over_same (Hold size) stack e = refl
 over_same (at.Task x s t) [] e = absurd (omega (arith, ltb-false 0 2 e))
 over_same (at.Task x s t) (b ∷ []) e = absurd (omega (arith, ltb-false (length (b ∷ [])) 2 e))
@@ -138,8 +147,10 @@ over_same (at.Task x s t) (b ∷ (a ∷ stack)) e =
     let same : all ≡ xs ++ ends_of a ∷ (ends_of b ∷ []) = append_assoc xs (ends_of a ∷ []) (ends_of b ∷ []) in
     let n : length all - 2 ≡ length xs = omega (arith, ap length same, length-append xs (ends_of a ∷ (ends_of b ∷ []))) in
     let m : length all - 1 ≡ length (xs ++ ends_of a ∷ []) = omega (arith, length-append (xs ++ ends_of a ∷ []) (ends_of b ∷ [])) in
-    let first : get_or all (length all - 2) no_ends ≡ ends_of a = (λ i. get_or (same i) (n i) no_ends) ∙ get_or-append_seam xs (ends_of a) (ends_of b ∷ []) no_ends in
-    let last : get_or all (length all - 1) no_ends ≡ ends_of b = ap (λ k. get_or all k no_ends) m ∙ get_or-append_seam (xs ++ ends_of a ∷ []) (ends_of b) [] no_ends in
+    let first : get_or all (length all - 2) no_ends ≡ ends_of a =
+    (λ i. get_or (same i) (n i) no_ends) ∙ get_or-append_seam xs (ends_of a) (ends_of b ∷ []) no_ends in
+    let last : get_or all (length all - 1) no_ends ≡ ends_of b =
+    ap (λ k. get_or all k no_ends) m ∙ get_or-append_seam (xs ++ ends_of a ∷ []) (ends_of b) [] no_ends in
     λ i. nat_lt (first i).fin s || nat_lt (x + (last i).initial) s
 over_same (Par k) stack e = refl
 
@@ -151,12 +162,15 @@ pub record Fits (ps tasks total : ℕ) (p : Position) : Type 0 where
   pub few_tasks : tasks + added_tasks p ≤ most_tasks
   pub total_is : total + added_size p ≤ most_total
 
-pub fits : (n tasks total : ℕ) (p : Position) → IsPosition p → tasks ≤ most_tasks → total ≤ most_total → passed_limit n tasks total p ≡ None → Fits n tasks total p
+pub fits : (n tasks total : ℕ) (p : Position) → IsPosition p → tasks ≤ most_tasks
+    → total ≤ most_total → passed_limit n tasks total p ≡ None → Fits n tasks total p
 fits n tasks total p a l m e = grind arith
 
 -- the sums of the ends
 
-ends-weight : (stack : List Term) → (sum_by initial_at (all_ends stack) ≤ sum_by added_size (stack_postfix stack)) × (sum_by fin_at (all_ends stack) ≤ sum_by added_size (stack_postfix stack))
+ends-weight : (stack : List Term)
+    → (sum_by initial_at (all_ends stack) ≤ sum_by added_size (stack_postfix stack))
+    × (sum_by fin_at (all_ends stack) ≤ sum_by added_size (stack_postfix stack))
 ends-weight [] = (omega arith, omega arith)
 ends-weight (t ∷ stack) =
     let k = ends-weight stack in
@@ -165,7 +179,8 @@ ends-weight (t ∷ stack) =
       omega (arith, k.1, s, sum_by-append fin_at (all_ends stack) (ends_of t ∷ []), first-le-weight backward t),
     )
 
-pub light : (ps : List Position) (ends : List Ends) (tasks total : ℕ) → IsBuilder ps ends tasks total → (sum_by initial_at ends ≤ most_total) × (sum_by fin_at ends ≤ most_total)
+pub light : (ps : List Position) (ends : List Ends) (tasks total : ℕ) → IsBuilder ps ends tasks total
+    → (sum_by initial_at ends ≤ most_total) × (sum_by fin_at ends ≤ most_total)
 light ps ends tasks total h =
     let eq : ps ≡ stack_postfix (stack_of ps) = all_pushed ps [] (stack_of ps) h.leave.is in
     let k = ends-weight (stack_of ps) in (
@@ -175,7 +190,8 @@ light ps ends tasks total h =
 
 -- there are no more terms than positions
 
-pub few_terms : (ps : List Position) (ends : List Ends) (tasks total : ℕ) → IsBuilder ps ends tasks total → length (stack_of ps) ≤ most_positions
+pub few_terms : (ps : List Position) (ends : List Ends) (tasks total : ℕ)
+    → IsBuilder ps ends tasks total → length (stack_of ps) ≤ most_positions
 few_terms ps ends tasks total h = omega (arith, stack_few ps (stack_of ps) h.leave.is, h.leave.few)
 
 -- one position more
@@ -191,17 +207,21 @@ module _ (ps : List Position) (ends : List Ends) (tasks total : ℕ) (p : Positi
   same_over e = ap (λ z. over_ends z p) h.ends_are ∙ over_same p (stack_of ps) (sym same_short ∙ e)
 
   -- the refusal, told from what the builder keeps
-  pub refusal_is : refusal_of ps p ≡ (if is_short (length ends) p then Some Short else limit_or (passed_limit (length ps) tasks total p) (share_refusal (over_ends ends p)))
+  pub refusal_is : refusal_of ps p ≡ (if is_short (length ends) p then Some Short
+      else limit_or (passed_limit (length ps) tasks total p) (share_refusal (over_ends ends p)))
   refusal_is = let short = same_short in let limit = same_limit in let over = same_over in grind arith
 
-  pub builder_more : IsPosition p → is_short (length ends) p ≡ false → passed_limit (length ps) tasks total p ≡ None → over_ends ends p ≡ false
+  pub builder_more : IsPosition p → is_short (length ends) p ≡ false
+      → passed_limit (length ps) tasks total p ≡ None → over_ends ends p ≡ false
       → IsBuilder (ps ++ p ∷ []) (next_ends p ends) (tasks + added_tasks p) (total + added_size p)
   builder_more a e l o =
       let (out, k) = push_some p (stack_of ps) (sym same_short ∙ e) in
       let step = pushed p (stack_of ps) out k in
-      let all : push_all (ps ++ p ∷ []) [] ≡ Some out = push_then ps (p ∷ []) [] (stack_of ps) h.leave.is ∙ ap (option_and_then (push_all [])) k in
+      let all : push_all (ps ++ p ∷ []) [] ≡ Some out =
+      push_then ps (p ∷ []) [] (stack_of ps) h.leave.is ∙ ap (option_and_then (push_all [])) k in
       let is_out : out ≡ stack_of (ps ++ p ∷ []) = sym (ap stack_from all) in
-      let f = fits (length ps) tasks total p a (omega (arith, h.tasks_are, h.leave.few_tasks)) (omega (arith, h.total_is, h.leave.total)) l in
+      let f =
+      fits (length ps) tasks total p a (omega (arith, h.tasks_are, h.leave.few_tasks)) (omega (arith, h.total_is, h.leave.total)) l in
       let n = length-append ps (p ∷ []) in
       let r = sum_by-append added_tasks ps (p ∷ []) in
       let w = sum_by-append added_size ps (p ∷ []) in
@@ -221,12 +241,14 @@ module _ (ps : List Position) (ends : List Ends) (tasks total : ℕ) (p : Positi
 
 -- what the code does to the ends
 
-pub par_is : (xs ds cut : List Ends) (k n m : ℕ) (all : Ends) → n ≡ m → m ≡ length xs → 1 ≤ k → k ≤ length xs → ds ≡ xs → cut ≡ take (n - k + 1) xs → all ≡ beside (take (length ds - (n - k)) (drop (n - k) ds))
+pub par_is : (xs ds cut : List Ends) (k n m : ℕ) (all : Ends) → n ≡ m → m ≡ length xs → 1 ≤ k → k ≤ length xs
+    → ds ≡ xs → cut ≡ take (n - k + 1) xs → all ≡ beside (take (length ds - (n - k)) (drop (n - k) ds))
     → slice_set cut (n - k) all ≡ par_ends xs k
 par_is xs ds cut k n m all e f a b d c g =
     let len : n ≡ length xs = e ∙ f in
     cut_set xs cut (n - k) (n - k + 1) all (omega arith) (omega (arith, len)) c
-    ∙ (λ i. take (len i - k) xs ++ (g ∙ ap (λ z. beside (take (length z - (n - k)) (drop (n - k) z))) d ∙ ap beside (take_rest xs (n - k)) ∙ ap (λ q. beside (drop (q - k) xs)) len) i ∷ [])
+    ∙ (λ i. take (len i - k) xs ++ (g ∙ ap (λ z. beside (take (length z - (n - k)) (drop (n - k) z))) d
+    ∙ ap beside (take_rest xs (n - k)) ∙ ap (λ q. beside (drop (q - k) xs)) len) i ∷ [])
 
 pub rest_light : (xs ds : List Ends) (m : ℕ) → ds ≡ xs → (sum_by initial_at xs ≤ most_total) × (sum_by fin_at xs ≤ most_total)
     → (sum_by initial_at (take (length ds - m) (drop m ds)) ≤ most_total) × (sum_by fin_at (take (length ds - m) (drop m ds)) ≤ most_total)
@@ -236,13 +258,16 @@ rest_light xs ds m d h =
       omega (arith, h.1, ap (sum_by fin_at) e, sum_by-take-drop fin_at xs m),
     )
 
-pub series_is : (xs cut : List Ends) (n m : ℕ) (a b : Ends) → 2 ≤ length xs → n ≡ m → m ≡ length xs → cut ≡ take (n - 1) xs → a ≡ get_or xs (n - 1 - 1) a → b ≡ get_or xs (n - 1) b
+pub series_is : (xs cut : List Ends) (n m : ℕ) (a b : Ends) → 2 ≤ length xs → n ≡ m
+    → m ≡ length xs → cut ≡ take (n - 1) xs → a ≡ get_or xs (n - 1 - 1) a → b ≡ get_or xs (n - 1) b
     → slice_set cut (n - 1 - 1) (record { initial = a.initial; fin = b.fin }) ≡ series_ends xs
 series_is xs cut n m a b two e f c first last =
     let len : n ≡ length xs = e ∙ f in
     let low : n - 1 - 1 ≡ length xs - 2 = omega (arith, len) in
     let high : n - 1 ≡ length xs - 1 = omega (arith, len) in
-    let a_is : a ≡ get_or xs (length xs - 2) no_ends = get_or_read xs (n - 1 - 1) a (omega (arith, len, two)) first no_ends ∙ ap (λ k. get_or xs k no_ends) low in
-    let b_is : b ≡ get_or xs (length xs - 1) no_ends = get_or_read xs (n - 1) b (omega (arith, len, two)) last no_ends ∙ ap (λ k. get_or xs k no_ends) high in
+    let a_is : a ≡ get_or xs (length xs - 2) no_ends =
+    get_or_read xs (n - 1 - 1) a (omega (arith, len, two)) first no_ends ∙ ap (λ k. get_or xs k no_ends) low in
+    let b_is : b ≡ get_or xs (length xs - 1) no_ends =
+    get_or_read xs (n - 1) b (omega (arith, len, two)) last no_ends ∙ ap (λ k. get_or xs k no_ends) high in
     cut_set xs cut (n - 1 - 1) (n - 1) (record { initial = a.initial; fin = b.fin }) (omega (arith, len, two)) (omega (arith, len)) c
     ∙ (λ i. take (low i) xs ++ record { initial = (a_is i).initial; fin = (b_is i).fin } ∷ [])

@@ -1,5 +1,6 @@
 -- The terms at the positions of a list that denotes a term.
-use Rattle.std.proofs.Common.{◌≡◌, ℕ, suc, ◌+◌, ◌-◌, ◌<◌, ◌≤◌, refl, sym, subst, ap, arith, ◌∙◌, List, [], ◌∷◌, ◌++◌, length, take, drop, map, get_or, Some, All}
+use Rattle.std.proofs.Common.{◌≡◌, ℕ, suc, ◌+◌, ◌-◌, ◌<◌, ◌≤◌, refl, sym, subst, ap, arith, ◌∙◌}
+use Rattle.std.proofs.Common.{List, [], ◌∷◌, ◌++◌, length, take, drop, map, get_or, Some, All}
 use Rattle.std.proofs.lemmas.List.{take-append-drop, take_all}
 use Rattle.std.proofs.lemmas.List.Elements.{All-nil, All-cons}
 use Rattle.std.specs.List.{sum_by}
@@ -8,7 +9,8 @@ use Rattle.limits.specs.Limits.{most_total}
 use Rattle.mp_system.specs.declared.system.Task.{Task}
 use Rattle.sp_terms.specs.declared.position.Position.{Position}
 use Rattle.sp_terms.specs.declared.position.Position.TheVariants.{Hold}
-use Rattle.sp_terms.specs.Term.{Term, hold, series, par, Parts, no_parts, part, width_of, width_of_parts, forward, backward, initial_of, final_of, IsAllowed}
+use Rattle.sp_terms.specs.Term.{Term, hold, series, par, Parts, no_parts, part, width_of, width_of_parts}
+use Rattle.sp_terms.specs.Term.{forward, backward, initial_of, final_of, IsAllowed}
 use Rattle.sp_terms.specs.Places.{term_of_position, list_of_parts, parts_of, positions_after, part_positions, IsTermAt}
 use Rattle.sp_terms.specs.Postfix.{push_all, postfix, at_task}
 use Rattle.sp_terms.specs.Values.{stack_from, last_term, term_at, term_of, IsTerms, AllAllowed, added_size}
@@ -24,7 +26,8 @@ record OnStack (ps : List Position) (n : ℕ) (ts : Parts) (rest : List Term) : 
   terms : map (term_of_position ps) (positions_after start (list_of_parts ts)) ≡ list_of_parts ts
   inside : All (λ j. (1 ≤ j) × (j < suc n)) (positions_after start (list_of_parts ts))
 
-on_stack : (ps : List Position) (n : ℕ) (ts : Parts) (rest : List Term) → n ≤ length ps → push_all (take n ps) [] ≡ Some (onto ts rest) → OnStack ps n ts rest
+on_stack : (ps : List Position) (n : ℕ) (ts : Parts) (rest : List Term)
+    → n ≤ length ps → push_all (take n ps) [] ≡ Some (onto ts rest) → OnStack ps n ts rest
 on_stack ps n no_parts rest le e = record { start = n; width = omega arith; below = e; terms = refl; inside = All-nil _ }
 on_stack ps n (part t ts) rest le e =
     let more = on_stack ps n ts (t ∷ rest) le e in
@@ -51,7 +54,8 @@ record At (ps : List Position) (k : ℕ) (p : Position) : Type 0 where
   before : All (λ j. (1 ≤ j) × (j < k)) (part_positions k term)
 
 module _ (ps : List Position) (n : ℕ) (le : n ≤ length ps) where
-  parts_at : (t : Term) (ts : Parts) (rest : List Term) → width_of t ≡ suc (width_of_parts ts) → parts_of t ≡ list_of_parts ts → push_all (take n ps) [] ≡ Some (onto ts rest)
+  parts_at : (t : Term) (ts : Parts) (rest : List Term) → width_of t ≡ suc (width_of_parts ts)
+      → parts_of t ≡ list_of_parts ts → push_all (take n ps) [] ≡ Some (onto ts rest)
       → (map (term_of_position ps) (part_positions (suc n) t) ≡ parts_of t) × All (λ j. (1 ≤ j) × (j < suc n)) (part_positions (suc n) t)
   parts_at t ts rest width parts e =
       let o = on_stack ps n ts rest le e in
@@ -65,7 +69,8 @@ module _ (ps : List Position) (n : ℕ) (le : n ≤ length ps) where
       same : suc n - 1 ≡ n
       same = omega arith
 
-  at : (p : Position) (before after : List Term) → push_all (take n ps) [] ≡ Some before → push_all (take (suc n) ps) [] ≡ Some after → Pushed p before after → At ps (suc n) p
+  at : (p : Position) (before after : List Term) → push_all (take n ps) [] ≡ Some before
+      → push_all (take (suc n) ps) [] ≡ Some after → Pushed p before after → At ps (suc n) p
   at p before after e f (held size stack) =
       let x = parts_at (hold size) no_parts stack refl refl e in
       record { term = hold size; is = top (hold size) stack f; own = refl; parts = x.0; before = x.1 }
@@ -83,7 +88,8 @@ module _ (ps : List Position) (k : ℕ) (terms : IsTerms ps) (low : 1 ≤ k) (hi
   here : (d : Position) → At ps k (get_or ps (k - 1) d)
   here d =
       let p = place ps (term_of ps ∷ []) (k - 1) d terms.is (omega (arith, low, high)) in
-      subst (λ m. At ps m (get_or ps (k - 1) d)) one (at ps (k - 1) (omega (arith, high)) (get_or ps (k - 1) d) p.before p.after p.is p.then p.step)
+      subst (λ m. At ps m (get_or ps (k - 1) d)) one
+      (at ps (k - 1) (omega (arith, high)) (get_or ps (k - 1) d) p.before p.after p.is p.then p.step)
 
   pub own_at : (d : Position) → IsTermAt (get_or ps (k - 1) d) (term_of_position ps k)
   own_at d = let h = here d in subst (IsTermAt (get_or ps (k - 1) d)) (sym h.is) h.own
@@ -104,7 +110,8 @@ module _ (ps : List Position) (k : ℕ) (terms : IsTerms ps) (low : 1 ≤ k) (hi
       go (t ∷ stack) e g = subst (λ o. IsAllowed (last_term (stack_from o))) (sym (ap (λ m. push_all (take m ps) []) one ∙ e)) g.0
 
   -- while the task of a series runs, memory is at most the total of sizes, even without its share
-  pub small_here : (a : Term) (v : Task) (b : Term) → term_of_position ps k ≡ series a v b → final_of a + (v.extra + initial_of b) ≤ most_total
+  pub small_here : (a : Term) (v : Task) (b : Term) → term_of_position ps k ≡ series a v b
+      → final_of a + (v.extra + initial_of b) ≤ most_total
   small_here a v b is =
       let p = place ps (term_of ps ∷ []) (k - 1) (Hold 0) terms.is (omega (arith, low, high)) in
       go p.after (subst (λ m. push_all (take m ps) [] ≡ Some p.after) one p.then)
@@ -119,7 +126,8 @@ module _ (ps : List Position) (k : ℕ) (terms : IsTerms ps) (low : 1 ≤ k) (hi
       go [] e = absurd (no_series (stands [] e))
       go (t ∷ stack) e =
           let u = under ps k t stack high e in
-          let cut : take (k - width_of t) ps ++ postfix (series a v b) ≡ take k ps = ap (λ s. take (k - width_of t) ps ++ postfix s) (sym (stands (t ∷ stack) e)) ∙ u.cut in
+          let cut : take (k - width_of t) ps ++ postfix (series a v b) ≡ take k ps =
+          ap (λ s. take (k - width_of t) ps ++ postfix s) (sym (stands (t ∷ stack) e)) ∙ u.cut in
           omega (
             arith,
             terms.total,

@@ -1,5 +1,6 @@
 -- The values of the term that ends at a position, from those of the terms that end before it.
-use Rattle.std.proofs.Common.{◌≡◌, ℕ, suc, ◌+◌, ◌-◌, ◌<◌, ◌≤◌, min, refl, sym, subst, ap, arith, ◌∙◌, List, [], ◌∷◌, ◌++◌, length, length-append, take, get_or, Some, append_assoc, length-take}
+use Rattle.std.proofs.Common.{◌≡◌, ℕ, suc, ◌+◌, ◌-◌, ◌<◌, ◌≤◌, min, refl, sym, subst, ap, arith, ◌∙◌, List, []}
+use Rattle.std.proofs.Common.{◌∷◌, ◌++◌, length, length-append, take, get_or, Some, append_assoc, length-take}
 use Rattle.std.specs.List.{sum_by}
 use Rattle.std.proofs.lemmas.List.{append-nil}
 use Rattle.std.proofs.lemmas.Grind.{common_steps}
@@ -10,7 +11,8 @@ use Rattle.sp_terms.specs.declared.position.Position.{Position}
 use Rattle.sp_terms.specs.declared.position.Values.{Values}
 use Rattle.sp_terms.specs.declared.position.Position.TheVariants.{Hold, Par}
 use Rattle.sp_terms.specs.declared.position.Position.TheVariants as at
-use Rattle.sp_terms.specs.Term.{Term, hold, series, par, Parts, no_parts, part, count, width_of, width_of_parts, Direction, forward, backward, first_memory, first_memory_of_parts, least_of, least_of_parts}
+use Rattle.sp_terms.specs.Term.{Term, hold, series, par, Parts, no_parts, part, count, width_of, width_of_parts, Direction}
+use Rattle.sp_terms.specs.Term.{forward, backward, first_memory, first_memory_of_parts, least_of, least_of_parts}
 use Rattle.sp_terms.specs.Postfix.{gather, push_all, postfix, all_postfix, at_task}
 use Rattle.sp_terms.specs.Values.{stack_from, last_term, term_at, IsTerms, AreValues, values_of, added_size, IsTaskPosition}
 use Rattle.sp_terms.proofs.Stacks.{onto, Pushed, held, ran, beside, place, under, length-all_postfix}
@@ -18,7 +20,8 @@ use Rattle.lists.proofs.Options.{some_same}
 use Rattle.lists.proofs.Options.{none_some}
 
 -- what a position is, and what it found
-pub as_task : (p : Position) (before after : List Term) → Pushed p before after → IsTaskPosition p → (v : Task) × (a b : Term) × (stack : List Term) × (before ≡ b ∷ a ∷ stack) × (after ≡ series a v b ∷ stack)
+pub as_task : (p : Position) (before after : List Term) → Pushed p before after → IsTaskPosition p
+    → (v : Task) × (a b : Term) × (stack : List Term) × (before ≡ b ∷ a ∷ stack) × (after ≡ series a v b ∷ stack)
 as_task p before after (held size stack) h = absurd h
 as_task p before after (ran v a b stack) h = (v, a, b, stack, refl, refl)
 as_task p before after (beside ts stack e) h = absurd h
@@ -46,13 +49,17 @@ as_hold p before after (held size stack) n e = ap (λ z. hold z ∷ before) (hol
 as_hold p before after (ran v a b stack) n e = absurd (task_hold e)
 as_hold p before after (beside ts stack g) n e = absurd (par_hold e)
 
-pub as_par : (p : Position) (before after : List Term) → Pushed p before after → (k : ℕ) → p ≡ Par k → (ts : Parts) × (stack : List Term) × (count ts ≡ k) × (before ≡ onto ts stack) × (after ≡ par ts ∷ stack) × (gather k before no_parts ≡ Some (ts, stack))
+pub as_par : (p : Position) (before after : List Term) → Pushed p before after → (k : ℕ) → p ≡ Par k
+    → (ts : Parts) × (stack : List Term) × (count ts ≡ k) × (before ≡ onto ts stack)
+    × (after ≡ par ts ∷ stack) × (gather k before no_parts ≡ Some (ts, stack))
 as_par p before after (held size stack) k e = absurd (hold_par e)
 as_par p before after (ran v a b stack) k e = absurd (task_par e)
-as_par p before after (beside ts stack g) k e = (ts, stack, par_same e, refl, refl, subst (λ n. gather n before no_parts ≡ Some (ts, stack)) (par_same e) g)
+as_par p before after (beside ts stack g) k e =
+    (ts, stack, par_same e, refl, refl, subst (λ n. gather n before no_parts ≡ Some (ts, stack)) (par_same e) g)
 
 -- the term that ends before a place
-pub ends : (ps : List Position) (n : ℕ) (t : Term) (stack : List Term) → 0 < n → push_all (take n ps) [] ≡ Some (t ∷ stack) → term_at ps (n - 1) ≡ t
+pub ends : (ps : List Position) (n : ℕ) (t : Term) (stack : List Term)
+    → 0 < n → push_all (take n ps) [] ≡ Some (t ∷ stack) → term_at ps (n - 1) ≡ t
 ends ps n t stack lt e =
     let one : suc (n - 1) ≡ n = omega arith in
     ap (λ m. last_term (stack_from (push_all (take m ps) []))) one ∙ ap (λ o. last_term (stack_from o)) e
@@ -62,13 +69,20 @@ ends ps n t stack lt e =
 mutual
   pub first-le-weight : (d : Direction) (t : Term) → first_memory d t ≤ sum_by added_size (postfix t)
   first-le-weight d (hold size) = omega arith
-  first-le-weight forward (series a v b) = omega (arith, sum_by-append added_size (postfix a) (postfix b ++ at_task v ∷ []), first-le-weight forward a)
-  first-le-weight backward (series a v b) = omega (arith, sum_by-append added_size (postfix a) (postfix b ++ at_task v ∷ []), sum_by-append added_size (postfix b) (at_task v ∷ []), first-le-weight backward b)
+  first-le-weight forward (series a v b) =
+      omega (arith, sum_by-append added_size (postfix a) (postfix b ++ at_task v ∷ []), first-le-weight forward a)
+  first-le-weight backward (series a v b) = omega (
+    arith,
+    sum_by-append added_size (postfix a) (postfix b ++ at_task v ∷ []),
+    sum_by-append added_size (postfix b) (at_task v ∷ []),
+    first-le-weight backward b,
+  )
   first-le-weight d (par ts) = omega (arith, sum_by-append added_size (all_postfix ts) (Par (count ts) ∷ []), all_first-le-weight d ts)
 
   pub all_first-le-weight : (d : Direction) (ts : Parts) → first_memory_of_parts d ts ≤ sum_by added_size (all_postfix ts)
   all_first-le-weight d no_parts = omega arith
-  all_first-le-weight d (part t ts) = omega (arith, sum_by-append added_size (postfix t) (all_postfix ts), first-le-weight d t, all_first-le-weight d ts)
+  all_first-le-weight d (part t ts) =
+      omega (arith, sum_by-append added_size (postfix t) (all_postfix ts), first-le-weight d t, all_first-le-weight d ts)
 
 mutual
   pub least-le-first : (t : Term) → least_of t ≤ first_memory forward t
@@ -106,7 +120,8 @@ pub record SeriesAt (ps : List Position) (values : List Values) (at : ℕ) : Typ
 
 -- the values of a series are those of its two parts, put together
 series_own : (left right : Values) (a b : Term) (v : Task) (whole : Term) → left ≡ values_of a → right ≡ values_of b → whole ≡ series a v b
-    → record { initial = left.initial; fin = right.fin; least = min left.least right.least; width = left.width + right.width + 1 } ≡ values_of whole
+    → record { initial = left.initial; fin = right.fin; least = min left.least right.least; width = left.width + right.width + 1 }
+    ≡ values_of whole
 series_own left right a b v whole is_left is_right is_whole =
     (λ i. record {
       initial = (is_left i).initial;
@@ -121,7 +136,8 @@ series_own left right a b v whole is_left is_right is_whole =
     more : (m n : ℕ) → m + n + 1 ≡ suc (m + n)
     more m n = omega arith
 
-pub series_at : (ps : List Position) (values : List Values) (at : ℕ) → IsTerms ps → at < length ps → AreValues ps values at → ((d : Position) → IsTaskPosition (get_or ps at d)) → SeriesAt ps values at
+pub series_at : (ps : List Position) (values : List Values) (at : ℕ) → IsTerms ps → at < length ps
+    → AreValues ps values at → ((d : Position) → IsTaskPosition (get_or ps at d)) → SeriesAt ps values at
 series_at ps values at h lt known task =
     let p = place ps _ at (Par 0) h.is lt in
     let (v, a, b, stack, e, f) = as_task _ p.before p.after p.step (task (Par 0)) in
@@ -133,7 +149,8 @@ series_at ps values at h lt known task =
     let right : right_at values at ≡ values_of b = known (at - 1) no_values (omega (arith, u.room, u.some)) ∙ ap values_of right_is in
     let wide : (right_at values at).width ≡ width_of b = ap (λ (v : Values). v.width) right in
     let left : left_at values at ≡ values_of a =
-    ap (λ n. get_or values n no_values) (let e : at - 1 - (right_at values at).width ≡ at - width_of b - 1 = omega arith in e) ∙ known (at - width_of b - 1) no_values (omega (arith, u.room, u.some)) ∙ ap values_of left_is in
+    ap (λ n. get_or values n no_values) (let e : at - 1 - (right_at values at).width ≡ at - width_of b - 1 = omega arith in e)
+    ∙ known (at - width_of b - 1) no_values (omega (arith, u.room, u.some)) ∙ ap values_of left_is in
     let long : (left_at values at).width ≡ width_of a = ap (λ (v : Values). v.width) left in
     record {
       some = omega (arith, u.room, u.some);
@@ -145,7 +162,12 @@ series_at ps values at h lt known task =
 -- a parallel composition: parts that were taken, from the last one on
 
 abbrev pub all_values : Parts → Values
-all_values ts = record { initial = first_memory_of_parts forward ts; fin = first_memory_of_parts backward ts; least = least_of_parts ts; width = suc (width_of_parts ts) }
+all_values ts = record {
+  initial = first_memory_of_parts forward ts;
+  fin = first_memory_of_parts backward ts;
+  least = least_of_parts ts;
+  width = suc (width_of_parts ts);
+}
 
 pub record Taken (ps : List Position) (at left end : ℕ) (all : Values) : Type 0 where
   pub parts : Parts
@@ -159,7 +181,8 @@ pub record Taken (ps : List Position) (at left end : ℕ) (all : Values) : Type 
   pub cut : take end ps ++ all_postfix parts ≡ take at ps
   pub all_is : all ≡ all_values parts
 
-pub taken_none : (ps : List Position) (at k : ℕ) → IsTerms ps → at < length ps → ((d : Position) → get_or ps at d ≡ Par k) → Taken ps at k at (record { initial = 0; fin = 0; least = 0; width = 1 })
+pub taken_none : (ps : List Position) (at k : ℕ) → IsTerms ps → at < length ps
+    → ((d : Position) → get_or ps at d ≡ Par k) → Taken ps at k at (record { initial = 0; fin = 0; least = 0; width = 1 })
 taken_none ps at k h lt is =
     let p = place ps _ at (Par 0) h.is lt in
     let (ts, stack, n, e, f, g) = as_par _ p.before p.after p.step k (is (Par 0)) in
@@ -176,9 +199,11 @@ taken_none ps at k h lt is =
       all_is = refl;
     }
 
-pub taken_all : (ps : List Position) (at left end : ℕ) (all : Values) → Taken ps at left end all → left ≡ 0 → all ≡ values_of (term_at ps at)
+pub taken_all : (ps : List Position) (at left end : ℕ) (all : Values)
+    → Taken ps at left end all → left ≡ 0 → all ≡ values_of (term_at ps at)
 taken_all ps at left end all h zero_left =
-    let same : Some (h.parts, h.stack) ≡ Some (h.whole, h.rest) = subst (λ n. gather n h.stack h.parts ≡ Some (h.whole, h.rest)) zero_left h.gathers in
+    let same : Some (h.parts, h.stack) ≡ Some (h.whole, h.rest) =
+    subst (λ n. gather n h.stack h.parts ≡ Some (h.whole, h.rest)) zero_left h.gathers in
     let parts : h.parts ≡ h.whole = ap (λ p. p.0) (some_same same) in
     h.all_is ∙ ap (λ ts. values_of (par ts)) parts ∙ sym (ap values_of h.top)
 
@@ -189,34 +214,59 @@ pub record Take (ps : List Position) (at left end : ℕ) (all next : Values) : T
   pub initial : all.initial + next.initial ≤ most_total
   pub fin : all.fin + next.fin ≤ most_total
   pub least : all.least + next.least ≤ most_total
-  pub taken : Taken ps at (left - 1) (end - next.width) (record { initial = all.initial + next.initial; fin = all.fin + next.fin; least = all.least + next.least; width = all.width + next.width })
+  pub taken : Taken ps at (left - 1) (end - next.width) (record {
+    initial = all.initial + next.initial;
+    fin = all.fin + next.fin;
+    least = all.least + next.least;
+    width = all.width + next.width;
+  })
 
-pub take_next : (ps : List Position) (values : List Values) (at left end : ℕ) (all : Values) → IsTerms ps → at < length ps → AreValues ps values at → 0 < left → Taken ps at left end all → Take ps at left end all (right_at values end)
+pub take_next : (ps : List Position) (values : List Values) (at left end : ℕ) (all : Values) → IsTerms ps → at < length ps
+    → AreValues ps values at → 0 < left → Taken ps at left end all → Take ps at left end all (right_at values end)
 take_next ps values at left end all h lt known some_left k =
     let more : left ≡ suc (left - 1) = omega arith in
     go k.stack k.is (subst (λ n. gather n k.stack k.parts ≡ Some (k.whole, k.rest)) more k.gathers)
   where
-    go : (stack : List Term) → push_all (take end ps) [] ≡ Some stack → gather (suc (left - 1)) stack k.parts ≡ Some (k.whole, k.rest) → Take ps at left end all (right_at values end)
+    go : (stack : List Term) → push_all (take end ps) [] ≡ Some stack
+        → gather (suc (left - 1)) stack k.parts ≡ Some (k.whole, k.rest) → Take ps at left end all (right_at values end)
     go [] e g = absurd (none_some g)
     go (t ∷ stack) e g =
         let u = under ps end t stack (omega (arith, k.few)) e in
         let top_is : term_at ps (end - 1) ≡ t = ends ps end t stack (omega (arith, u.room, u.some)) e in
-        let cut : take (end - width_of t) ps ++ (postfix t ++ all_postfix k.parts) ≡ take at ps = sym (append_assoc (take (end - width_of t) ps) (postfix t) (all_postfix k.parts)) ∙ ap (λ z. z ++ all_postfix k.parts) u.cut ∙ k.cut in
+        let cut : take (end - width_of t) ps ++ (postfix t ++ all_postfix k.parts) ≡ take at ps =
+        sym (append_assoc (take (end - width_of t) ps) (postfix t) (all_postfix k.parts))
+        ∙ ap (λ z. z ++ all_postfix k.parts) u.cut ∙ k.cut in
         let total : sum_by added_size (take at ps) ≤ most_total = omega (arith, sum_by-take-le added_size ps at, h.total) in
-        let fits : sum_by added_size (postfix t ++ all_postfix k.parts) ≤ most_total = omega (arith, total, ap (sum_by added_size) cut, sum_by-append added_size (take (end - width_of t) ps) (postfix t ++ all_postfix k.parts)) in
-        let lens : end + width_of_parts k.parts ≡ at = omega (arith, ap length k.cut, length-append (take end ps) (all_postfix k.parts), length-take end ps, length-take at ps, k.few, length-all_postfix k.parts) in
+        let fits : sum_by added_size (postfix t ++ all_postfix k.parts) ≤ most_total = omega (
+          arith,
+          total,
+          ap (sum_by added_size) cut,
+          sum_by-append added_size (take (end - width_of t) ps) (postfix t ++ all_postfix k.parts),
+        ) in
+        let lens : end + width_of_parts k.parts ≡ at = omega (
+          arith,
+          ap length k.cut,
+          length-append (take end ps) (all_postfix k.parts),
+          length-take end ps,
+          length-take at ps,
+          k.few,
+          length-all_postfix k.parts,
+        ) in
         let a_initial : all.initial ≡ first_memory_of_parts forward k.parts = ap (λ (v : Values). v.initial) k.all_is in
         let a_fin : all.fin ≡ first_memory_of_parts backward k.parts = ap (λ (v : Values). v.fin) k.all_is in
         let a_least : all.least ≡ least_of_parts k.parts = ap (λ (v : Values). v.least) k.all_is in
         let a_width : all.width ≡ suc (width_of_parts k.parts) = ap (λ (v : Values). v.width) k.all_is in
-        let b_initial : first_memory_of_parts forward (part t k.parts) ≤ most_total = omega (arith, fits, all_first-le-weight forward (part t k.parts)) in
-        let b_fin : first_memory_of_parts backward (part t k.parts) ≤ most_total = omega (arith, fits, all_first-le-weight backward (part t k.parts)) in
+        let b_initial : first_memory_of_parts forward (part t k.parts) ≤ most_total =
+        omega (arith, fits, all_first-le-weight forward (part t k.parts)) in
+        let b_fin : first_memory_of_parts backward (part t k.parts) ≤ most_total =
+        omega (arith, fits, all_first-le-weight backward (part t k.parts)) in
         let b_least : least_of_parts (part t k.parts) ≤ most_total = omega (arith, b_initial, all_least-le-first (part t k.parts)) in
         let e_initial : all.initial + first_memory forward t ≡ first_memory_of_parts forward (part t k.parts) = omega (arith, a_initial) in
         let e_fin : all.fin + first_memory backward t ≡ first_memory_of_parts backward (part t k.parts) = omega (arith, a_fin) in
         let e_least : all.least + least_of t ≡ least_of_parts (part t k.parts) = omega (arith, a_least) in
         let e_width : all.width + width_of t ≡ suc (width_of_parts (part t k.parts)) = omega (arith, a_width) in
-        subst (Take ps at left end all) (sym (known (end - 1) no_values (omega (arith, u.room, u.some, k.few)) ∙ ap values_of top_is)) (record {
+        subst (Take ps at left end all)
+        (sym (known (end - 1) no_values (omega (arith, u.room, u.some, k.few)) ∙ ap values_of top_is)) (record {
           some = omega (arith, u.room, u.some);
           room = u.room;
           few = omega (arith, a_width, lens, u.room);
@@ -237,12 +287,15 @@ take_next ps values at left end all h lt known some_left k =
           };
         })
 
-pub hold_at : (ps : List Position) (at size : ℕ) (d : Position) → IsTerms ps → at < length ps → get_or ps at d ≡ Hold size → record { initial = size; fin = size; least = size; width = 1 } ≡ values_of (term_at ps at)
+pub hold_at : (ps : List Position) (at size : ℕ) (d : Position) → IsTerms ps → at < length ps
+    → get_or ps at d ≡ Hold size → record { initial = size; fin = size; least = size; width = 1 } ≡ values_of (term_at ps at)
 hold_at ps at size d h lt is =
     let p = place ps _ at d h.is lt in
-    let top : term_at ps at ≡ hold size = ap (λ o. last_term (stack_from o)) p.then ∙ ap last_term (as_hold _ p.before p.after p.step size is) in
+    let top : term_at ps at ≡ hold size =
+    ap (λ o. last_term (stack_from o)) p.then ∙ ap last_term (as_hold _ p.before p.after p.step size is) in
     sym (ap values_of top)
 
 -- one more value
-pub values_more : (ps : List Position) (values : List Values) (n : ℕ) (v : Values) → length values ≡ n → AreValues ps values n → v ≡ values_of (term_at ps n) → AreValues ps (values ++ v ∷ []) (n + 1)
+pub values_more : (ps : List Position) (values : List Values) (n : ℕ) (v : Values) → length values ≡ n
+    → AreValues ps values n → v ≡ values_of (term_at ps n) → AreValues ps (values ++ v ∷ []) (n + 1)
 values_more ps values n v len known e j d lt = grind (arith, common_steps, known j d)

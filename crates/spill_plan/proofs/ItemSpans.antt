@@ -1,5 +1,6 @@
 -- A spill plan of a system is one of its items' spans.
-use Rattle.std.proofs.Common.{◌≡◌, ℕ, zero, suc, ◌+◌, ◌-◌, ◌<◌, ◌≤◌, inl, inr, true, false, cond, not, refl, sym, subst, ap, arith, ◌∙◌, List, [], ◌∷◌, length, take, map, get_or, Option, Some, None}
+use Rattle.std.proofs.Common.{◌≡◌, ℕ, zero, suc, ◌+◌, ◌-◌, ◌<◌, ◌≤◌, inl, inr, true, false, cond, not, refl, sym, subst}
+use Rattle.std.proofs.Common.{ap, arith, ◌∙◌, List, [], ◌∷◌, length, take, map, get_or, Option, Some, None}
 use Rattle.std.specs.Prelude.{◌==◌, nat_lt, nat_le, ◌&&◌}
 use Rattle.std.specs.List.{sum_by}
 use Rattle.std.specs.Option.{ForSome, option_map_or}
@@ -9,12 +10,14 @@ use Rattle.std.proofs.lemmas.List.Elements.{All-get_or}
 use Rattle.std.proofs.lemmas.List.Sums.{sum_by-cons}
 use Rattle.limits.specs.Limits.{most_tasks}
 use Rattle.mp_system.specs.declared.system.Item.{Item}
-use Rattle.mp_system.specs.System.{TaskSystem, IsSystem, IsTask, IsItemWithin, is_named, is_input, is_output, inputs_of, outputs_of, size_if, item_size}
+use Rattle.mp_system.specs.System.{TaskSystem, IsSystem, IsTask, IsItemWithin, is_named, is_input}
+use Rattle.mp_system.specs.System.{is_output, inputs_of, outputs_of, size_if, item_size}
 use Rattle.mp_system.specs.Memory.{stands_in, is_done_or}
 use Rattle.mp_system.specs.Traversal.{IsTraversal}
 use Rattle.spill_plan.specs.declared.span.Span.{Span}
 use Rattle.spill_plan.specs.SpillPlans.{is_held, own_need, sum_from, kept_across, IsSpillPlan, most_among, plan_volume}
-use Rattle.spill_plan.specs.Spans.{step_of, IsStepTable, IsInTable, start_of_item, end_of_item, span_of, no_span, AreItemSpans, is_across, start_sum, end_sum, kept_at, IsSpanPlan, span_volume}
+use Rattle.spill_plan.specs.Spans.{step_of, IsStepTable, IsInTable, start_of_item, end_of_item, span_of, no_span}
+use Rattle.spill_plan.specs.Spans.{AreItemSpans, is_across, start_sum, end_sum, kept_at, IsSpanPlan, span_volume}
 use Rattle.spill_plan.proofs.OrderSteps.{stands-take, task_step, step_of_task, produced_before}
 
 lt-le : (m n : ℕ) → nat_lt m n ≡ nat_le (suc m) n

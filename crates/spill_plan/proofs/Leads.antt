@@ -4,7 +4,8 @@ use Rattle.std.specs.Prelude.{nat_lt}
 use Rattle.spill_plan.specs.declared.span.Span.{Span}
 use Rattle.spill_plan.specs.SpillPlans.{sum_from, most_among}
 use Rattle.spill_plan.specs.Spans.{no_span, is_across, spilled_at, amount_sum, IsSpanPlan, demand, IsJustEnough, IsRaised, IsLowestBefore}
-use Rattle.spill_plan.proofs.SpanSums.{split, lt-yes, lt-no, across-yes, across-early, across-late, cond-yes, cond-no, cond-le, parts, sum-add, sum-le-all, sum-same-all}
+use Rattle.spill_plan.proofs.SpanSums.{split, lt-yes, lt-no, across-yes, across-early, across-late, cond-yes}
+use Rattle.spill_plan.proofs.SpanSums.{cond-no, cond-le, parts, sum-add, sum-le-all, sum-same-all}
 
 -- ---- one step keeps the greedy's lead
 

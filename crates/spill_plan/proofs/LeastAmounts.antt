@@ -1,5 +1,6 @@
 -- The amounts after the last step are those of a least spill.
-use Rattle.std.proofs.Common.{◌≡◌, ℕ, suc, ◌+◌, ◌-◌, ◌<◌, ◌≤◌, Bool, true, false, cond, refl, sym, subst, ap, arith, ◌∙◌, List, [], ◌∷◌, length, map, get_or, None}
+use Rattle.std.proofs.Common.{◌≡◌, ℕ, suc, ◌+◌, ◌-◌, ◌<◌, ◌≤◌, Bool, true, false, cond, refl, sym}
+use Rattle.std.proofs.Common.{subst, ap, arith, ◌∙◌, List, [], ◌∷◌, length, map, get_or, None}
 use Rattle.std.specs.Prelude.{sum, slice_index}
 use Rattle.std.proofs.lemmas.Bool.{true≢false}
 use Rattle.std.proofs.lemmas.List.Sums.{sum_by-cons}
@@ -8,7 +9,8 @@ use Rattle.mp_system.specs.declared.system.Item.{Item}
 use Rattle.mp_system.specs.System.{TaskSystem, IsSystem}
 use Rattle.mp_system.specs.Traversal.{IsTraversal}
 use Rattle.spill_plan.specs.declared.span.Span.{Span}
-use Rattle.spill_plan.specs.SpillPlans.{is_held, own_need, nth_item, sum_from, IsSpillPlan, most_among, plan_volume, plan_by_amounts, IsLeastSpill}
+use Rattle.spill_plan.specs.SpillPlans.{is_held, own_need, nth_item, sum_from, IsSpillPlan, most_among}
+use Rattle.spill_plan.specs.SpillPlans.{plan_volume, plan_by_amounts, IsLeastSpill}
 use Rattle.spill_plan.specs.declared.refusal.SpillRefusal.{SpillRefusal}
 use Rattle.spill_plan.specs.declared.refusal.SpillRefusal.TheVariants.{Order, WorkingSet, NoMemory}
 use Rattle.spill_plan.specs.Refusal.{IsSpillRefusal}

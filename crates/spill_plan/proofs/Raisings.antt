@@ -1,5 +1,6 @@
 -- One item is raised: which it is, and what stays right.
-use Rattle.std.proofs.Common.{◌≡◌, ◌≢◌, ℕ, ◌+◌, ◌-◌, ◌<◌, ◌≤◌, inl, inr, true, false, cond, sym, subst, ap, arith, ◌∙◌, List, length, get_or, set, min}
+use Rattle.std.proofs.Common.{◌≡◌, ◌≢◌, ℕ, ◌+◌, ◌-◌, ◌<◌, ◌≤◌, inl, inr, true, false, cond}
+use Rattle.std.proofs.Common.{sym, subst, ap, arith, ◌∙◌, List, length, get_or, set, min}
 use Rattle.std.specs.Prelude.{nat_eq, slice_index}
 use Rattle.std.proofs.lemmas.Bool.{cases_Bool, cases_eq, ne_eqb, true≢false}
 use Rattle.std.proofs.lemmas.List.{get_or-set_same, get_or-set_other, length-set}
@@ -103,7 +104,8 @@ module _ (xs : List Span) (amounts : List ℕ) (i part : ℕ) (len : length amou
       omega (arith, left e w, term-le g xs i inside, cond-yes (nat_eq e e) ((get_or xs i no_span).size - get_or amounts i 0) same, fits)
 
   pub raised_left : (leaving : List ℕ) → AreLeftAt xs amounts leaving → (span_at xs i).end < length leaving
-      → AreLeftAt xs (set amounts i (get_or amounts i 0 + part)) (set leaving (span_at xs i).end (get_or leaving (span_at xs i).end 0 - part))
+      → AreLeftAt xs (set amounts i (get_or amounts i 0 + part))
+      (set leaving (span_at xs i).end (get_or leaving (span_at xs i).end 0 - part))
   raised_left leaving left w e h =
       let is = set amounts i (get_or amounts i 0 + part) in
       let end = (span_at xs i).end in

@@ -1,15 +1,18 @@
 -- From step to step.
-use Rattle.std.proofs.Common.{◌≡◌, ◌≢◌, ℕ, zero, suc, ◌+◌, ◌-◌, ◌<◌, ◌≤◌, inl, inr, Bool, true, false, cond, refl, subst, ap, arith, ◌∙◌, List, length, get_or, take}
+use Rattle.std.proofs.Common.{◌≡◌, ◌≢◌, ℕ, zero, suc, ◌+◌, ◌-◌, ◌<◌, ◌≤◌, inl, inr, Bool, true, false}
+use Rattle.std.proofs.Common.{cond, refl, subst, ap, arith, ◌∙◌, List, length, get_or, take}
 use Rattle.std.specs.Prelude.{nat_lt, nat_le, nat_eq, ◌&&◌, slice_index}
 use Rattle.std.specs.List.{sum_by}
 use Rattle.std.specs.Prelude.{replicate}
 use Rattle.std.proofs.lemmas.List.Sums.{sum_by_more_le_part}
 use Rattle.limits.specs.Limits.{most_total}
 use Rattle.spill_plan.specs.declared.span.Span.{Span}
-use Rattle.spill_plan.specs.Spans.{no_span, AreItemSpans, is_across, start_sum, end_sum, spilled_at, kept_at, amount_sum, demand, IsSpanPlan, span_volume, span_plan, IsRaised, IsSpilledAfter}
+use Rattle.spill_plan.specs.Spans.{no_span, AreItemSpans, is_across, start_sum, end_sum, spilled_at, kept_at, amount_sum}
+use Rattle.spill_plan.specs.Spans.{demand, IsSpanPlan, span_volume, span_plan, IsRaised, IsSpilledAfter}
 use Rattle.spill_plan.specs.Spilled.{left_at, AreZero, between_at, IsRaising}
 use Rattle.spill_plan.specs.SpillPlans.{sum_from, most_among}
-use Rattle.spill_plan.proofs.SpanSums.{split, across-yes, across-early, across-late, cond-yes, cond-no, cond-le, parts, sum-add, sum-le-all, sum-same-all, sum_from-sum_by, sum-none}
+use Rattle.spill_plan.proofs.SpanSums.{split, across-yes, across-early, across-late, cond-yes, cond-no, cond-le}
+use Rattle.spill_plan.proofs.SpanSums.{parts, sum-add, sum-le-all, sum-same-all, sum_from-sum_by, sum-none}
 use Rattle.spill_plan.proofs.Leads.{raised-best, none-best, best-volume, plan-within, plan-meets}
 
 pub held_parts : (xs : List Span) (k : ℕ) (amount : ℕ → ℕ) → ((i : ℕ) → i < length xs → amount i ≤ (get_or xs i no_span).size)

@@ -5,7 +5,8 @@ use Rattle.std.proofs.Math.Seq.{get_or-append_seam}
 use Rattle.std.proofs.lemmas.List.Elements.{All-get_or}
 use Rattle.limits.specs.Limits.{most_size, most_total}
 use Rattle.mp_system.specs.declared.system.Task.{Task}
-use Rattle.mp_system.specs.System.{TaskSystem, IsSystem, IsTask, IsTaskWithin, HasShare, task_at, is_input, is_output, inputs_of, outputs_of}
+use Rattle.mp_system.specs.System.{TaskSystem, IsSystem, IsTask, IsTaskWithin, HasShare}
+use Rattle.mp_system.specs.System.{task_at, is_input, is_output, inputs_of, outputs_of}
 use Rattle.mp_system.specs.Traversal.{IsTraversal}
 use Rattle.spill_plan.specs.SpillPlans.{own_need}
 use Rattle.spill_plan.proofs.SpanSums.{split}

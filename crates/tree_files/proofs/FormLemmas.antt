@@ -1,5 +1,6 @@
 -- What well-formed lines of a tree file say of the nodes that they state.
-use Rattle.std.proofs.Common.{◌≡◌, ℕ, ◌+◌, ◌-◌, ◌<◌, ◌≤◌, true, ltb, List, [], ◌∷◌, ◌++◌, length, get_or, take, drop, map, refl, sym, ap, subst, ◌∙◌, arith, None, append_assoc}
+use Rattle.std.proofs.Common.{◌≡◌, ℕ, ◌+◌, ◌-◌, ◌<◌, ◌≤◌, true, ltb, List, [], ◌∷◌, ◌++◌, length, get_or}
+use Rattle.std.proofs.Common.{take, drop, map, refl, sym, ap, subst, ◌∙◌, arith, None, append_assoc}
 use Rattle.std.specs.List.{sum_by, All}
 use Rattle.std.proofs.lemmas.List.{length-map, get_or-map, take_all, drop_more, take-append-drop, length-take-le}
 use Rattle.std.proofs.Math.Seq.{take-append_seam}
@@ -30,7 +31,8 @@ record IsNodeOn (count total : ℕ) (node : Node) : Type 0 where
   pub time : (1 ≤ node.time) × (node.time ≤ most_time)
   pub sums : total + node_size node ≤ most_total
 
-node_passed : (version : Version) (count total : ℕ) (row : Row) → first_failure (node_tests version count total row) ≡ None → IsNodeOn count total (node_of version row)
+node_passed : (version : Version) (count total : ℕ) (row : Row)
+    → first_failure (node_tests version count total row) ≡ None → IsNodeOn count total (node_of version row)
 node_passed version count total row none =
     let node = node_of version row in
     let one = passes _ _ _ none in
@@ -67,9 +69,17 @@ parts_of [] e = absurd cc
 parts_of (header ∷ []) e = absurd cc
 parts_of (header ∷ counted ∷ rows) e =
     let split = ends (node_count counted) rows (eqb-true _ _ e) in
-    record { header = header; counted = counted; rows = split.0; last = split.1; all_are = ap (λ zs. header ∷ counted ∷ zs) split.2.0; whole = split.2.1 }
+    record {
+      header = header;
+      counted = counted;
+      rows = split.0;
+      last = split.1;
+      all_are = ap (λ zs. header ∷ counted ∷ zs) split.2.0;
+      whole = split.2.1;
+    }
 
-module _ (header counted last : Row) (rows : List Row) (whole : length rows ≡ node_count counted) (passed : ArePassed tree_format (header ∷ counted ∷ (rows ++ last ∷ []))) where
+module _ (header counted last : Row) (rows : List Row) (whole : length rows ≡ node_count counted)
+    (passed : ArePassed tree_format (header ∷ counted ∷ (rows ++ last ∷ []))) where
   count_passed : (1 ≤ node_count counted) × (node_count counted ≤ most_tasks)
   count_passed =
       let none = passed (header ∷ []) (rows ++ last ∷ []) counted refl in
@@ -79,13 +89,18 @@ module _ (header counted last : Row) (rows : List Row) (whole : length rows ≡ 
       let four = passes _ _ _ three.1 in
       (positive (node_count counted) three.0, leb-true _ _ four.0)
 
-  node_at_passed : (i : ℕ) (d : Row) → i < length rows → IsNodeOn (node_count counted) (total_of (tree_version header) (take i rows)) (node_of (tree_version header) (get_or rows i d))
+  node_at_passed : (i : ℕ) (d : Row) → i < length rows
+      → IsNodeOn (node_count counted) (total_of (tree_version header) (take i rows)) (node_of (tree_version header) (get_or rows i d))
   node_at_passed i d lt =
       let row = get_or rows i d in
-      let cut : take i rows ++ row ∷ drop (i + 1) rows ≡ rows = ap (λ (ys : List Row). take i rows ++ ys) (sym (drop_more rows i d lt)) ∙ take-append-drop i rows in
-      let split : rows ++ last ∷ [] ≡ take i rows ++ row ∷ (drop (i + 1) rows ++ last ∷ []) = ap (λ (xs : List Row). xs ++ last ∷ []) (sym cut) ∙ append_assoc (take i rows) (row ∷ drop (i + 1) rows) (last ∷ []) in
-      let none = passed (header ∷ counted ∷ take i rows) (drop (i + 1) rows ++ last ∷ []) row (ap (λ (xs : List Row). header ∷ counted ∷ xs) split) in
-      let fewer : ltb (length (take i rows)) (node_count counted) ≡ true = lt-ltb _ _ (omega (arith, length-take-le i rows (omega arith))) in
+      let cut : take i rows ++ row ∷ drop (i + 1) rows ≡ rows =
+      ap (λ (ys : List Row). take i rows ++ ys) (sym (drop_more rows i d lt)) ∙ take-append-drop i rows in
+      let split : rows ++ last ∷ [] ≡ take i rows ++ row ∷ (drop (i + 1) rows ++ last ∷ []) =
+      ap (λ (xs : List Row). xs ++ last ∷ []) (sym cut) ∙ append_assoc (take i rows) (row ∷ drop (i + 1) rows) (last ∷ []) in
+      let none = passed (header ∷ counted ∷ take i rows) (drop (i + 1) rows ++ last ∷ []) row
+      (ap (λ (xs : List Row). header ∷ counted ∷ xs) split) in
+      let fewer : ltb (length (take i rows)) (node_count counted) ≡ true =
+      lt-ltb _ _ (omega (arith, length-take-le i rows (omega arith))) in
       node_passed (tree_version header) (node_count counted) _ row (rw fewer at none)
 
   nodes : List Node
@@ -101,12 +116,14 @@ module _ (header counted last : Row) (rows : List Row) (whole : length rows ≡ 
       let short : i < length rows = omega (arith, length-map rows (node_of (tree_version header)), lt) in
       let row : Row = record { number = 0; tokens = [] } in
       let on = node_at_passed i row short in
-      let is : get_or nodes i d ≡ node_of (tree_version header) (get_or rows i row) = get_or-map (node_of (tree_version header)) rows i row d short in
+      let is : get_or nodes i d ≡ node_of (tree_version header) (get_or rows i row) =
+      get_or-map (node_of (tree_version header)) rows i row d short in
       rw is (record { parent = omega (arith, on.parent, nodes_len); out = on.out; extra = on.extra; time = on.time })
 
   stated_is : nodes_stated (header ∷ counted ∷ (rows ++ last ∷ [])) ≡ nodes
   unfolding nodes
-  stated_is = ap (map (node_of (tree_version header))) (ap (λ (n : ℕ). take n (rows ++ last ∷ [])) (sym whole) ∙ take-append_seam rows (last ∷ []))
+  stated_is =
+      ap (map (node_of (tree_version header))) (ap (λ (n : ℕ). take n (rows ++ last ∷ [])) (sym whole) ∙ take-append_seam rows (last ∷ []))
 
   total_within : sum_by node_size nodes ≤ most_total
   unfolding nodes
@@ -121,7 +138,12 @@ module _ (header counted last : Row) (rows : List Row) (whole : length rows ≡ 
       omega (arith, on.sums, more, ap (sum_by size) all, sum_by-map node_size (node_of (tree_version header)) rows)
 
   within : AreNodesWithin nodes
-  within = record { some = omega (arith, nodes_len, count_passed.0); few = omega (arith, nodes_len, count_passed.1); each = each_within; total = total_within }
+  within = record {
+    some = omega (arith, nodes_len, count_passed.0);
+    few = omega (arith, nodes_len, count_passed.1);
+    each = each_within;
+    total = total_within;
+  }
 
   pub stated_within : AreNodesWithin (nodes_stated (header ∷ counted ∷ (rows ++ last ∷ [])))
   stated_within = rw stated_is within

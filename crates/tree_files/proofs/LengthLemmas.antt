@@ -62,7 +62,8 @@ node-within version nodes node few within share = go version
     last = more node.time [] time (All-nil IsShort)
 
     whole : (ns : List ℕ) → All IsShort ns → All IsShort (node.parent ∷ node.out ∷ node.extra ∷ ns)
-    whole ns rest = more node.parent (node.out ∷ node.extra ∷ ns) parent (more node.out (node.extra ∷ ns) out (more node.extra ns extra rest))
+    whole ns rest =
+        more node.parent (node.out ∷ node.extra ∷ ns) parent (more node.out (node.extra ∷ ns) out (more node.extra ns extra rest))
 
     go : (v : Version) → IsLineWithin 70 (node_line v node)
     go One = omega (arith, numbers-within node.parent (node.out ∷ node.extra ∷ node.time ∷ []) (whole (node.time ∷ []) last))

@@ -1,5 +1,6 @@
 -- A printed tree is read as it was.
-use Rattle.std.proofs.Common.{◌≡◌, ℕ, zero, suc, ◌+◌, ◌-◌, ◌^◌, ◌<◌, ◌≤◌, Bool, true, false, not, eqb, ltb, cond, List, [], ◌∷◌, ◌++◌, inl, inr, length, get_or, take, drop, map, refl, sym, ap, subst, ◌∙◌, arith, Some, None}
+use Rattle.std.proofs.Common.{◌≡◌, ℕ, zero, suc, ◌+◌, ◌-◌, ◌^◌, ◌<◌, ◌≤◌, Bool, true, false, not, eqb, ltb, cond, List, [], ◌∷◌}
+use Rattle.std.proofs.Common.{◌++◌, inl, inr, length, get_or, take, drop, map, refl, sym, ap, subst, ◌∙◌, arith, Some, None}
 use Rattle.std.specs.List.{All, sum_by, list_all}
 use Rattle.std.proofs.lemmas.Bool.{and_from, and_right, le-leb, lt-ltb, le-ltb, ne_eqb, eq-eqb, eqb-true, not-false, or_parts}
 use Rattle.std.proofs.lemmas.List.{length-map, length_push, get_or_default, drop_all}
@@ -18,8 +19,10 @@ use Rattle.mp_text.specs.Ahead.{rows_of_bytes}
 use Rattle.mp_text.specs.Grammar.{first_failure, ArePassed}
 use Rattle.mp_text.specs.Report.{is_counted, numbered_from}
 use Rattle.trees.specs.Tree.{IsTree, IsNodeWithin, node_size, node_at}
-use Rattle.tree_files.specs.TreeFile.{tree_format, tree_header_tests, tree_version, node_count_tests, node_count, fields_of, node_tests, node_of, total_of, is_tree_complete, nodes_stated, tree_line_tests, ReadsTree}
-use Rattle.tree_files.specs.TreeText.{node_numbers, node_line, tree_lines, tree_text_in, has_share, tree_version_for, tree_text, tree_text_2}
+use Rattle.tree_files.specs.TreeFile.{tree_format, tree_header_tests, tree_version, node_count_tests, node_count, fields_of, node_tests}
+use Rattle.tree_files.specs.TreeFile.{node_of, total_of, is_tree_complete, nodes_stated, tree_line_tests, ReadsTree}
+use Rattle.tree_files.specs.TreeText.{node_numbers, node_line, tree_lines, tree_text_in, has_share}
+use Rattle.tree_files.specs.TreeText.{tree_version_for, tree_text, tree_text_2}
 use Rattle.trees.specs.declared.node.Node.{Node}
 use Rattle.lists.proofs.Lists.{within as last_or_within}
 use Rattle.file_frame.specs.Frame.{is_end, last_tests}
@@ -41,7 +44,8 @@ small_three a b c ns one two three rest =
     let small : ℕ → Type 0 = λ n. n < 2 ^ 64 in
     All-cons small a (b ∷ c ∷ ns) one (All-cons small b (c ∷ ns) two (All-cons small c ns three rest))
 
-small_numbers : (version : Version) (node : Node) → node.parent < 2 ^ 64 → node.out < 2 ^ 64 → node.extra < 2 ^ 64 → node.share < 2 ^ 64 → node.time < 2 ^ 64 → AreSmall (node_numbers version node)
+small_numbers : (version : Version) (node : Node) → node.parent < 2 ^ 64 → node.out < 2 ^ 64
+    → node.extra < 2 ^ 64 → node.share < 2 ^ 64 → node.time < 2 ^ 64 → AreSmall (node_numbers version node)
 small_numbers One node parent out extra share time =
     let small : ℕ → Type 0 = λ n. n < 2 ^ 64 in
     small_three node.parent node.out node.extra (node.time ∷ []) parent out extra (All-cons small node.time [] time (All-nil small))
@@ -51,10 +55,12 @@ small_numbers Two node parent out extra share time =
     (All-cons small node.share (node.time ∷ []) share (All-cons small node.time [] time (All-nil small)))
 
 fields_are : AreLaws → (version : Version) (node : Node) → IsPrintable version node
-    → fields_of version (numbers_of (node_line version node)) ≡ Some (record { parent = node.parent; out = node.out; extra = node.extra; share = node.share; time = node.time })
+    → fields_of version (numbers_of (node_line version node))
+    ≡ Some (record { parent = node.parent; out = node.out; extra = node.extra; share = node.share; time = node.time })
 fields_are laws One node fits =
     ap (fields_of One) (laws.values (node_numbers One node) fits.numbers)
-    ∙ ap (λ (n : ℕ). Some (record { parent = node.parent; out = node.out; extra = node.extra; share = n; time = node.time })) (sym (fits.unshared refl))
+    ∙ ap (λ (n : ℕ). Some (record { parent = node.parent; out = node.out; extra = node.extra; share = n; time = node.time }))
+    (sym (fits.unshared refl))
 fields_are laws Two node fits = ap (fields_of Two) (laws.values (node_numbers Two node) fits.numbers)
 
 not_end : (version : Version) (number : ℕ) (node : Node) → is_end (record { number = number; tokens = node_line version node }) ≡ false
@@ -63,18 +69,21 @@ not_end Two number node = and_right _ _ refl
 
 node-counted : AreLaws → (version : Version) (node : Node) → IsPrintable version node → is_counted Commented (node_line version node) ≡ true
 node-counted laws One node fits = numbers_counted laws Commented node.parent (node.out ∷ node.extra ∷ node.time ∷ []) fits.numbers
-node-counted laws Two node fits = numbers_counted laws Commented node.parent (node.out ∷ node.extra ∷ node.share ∷ node.time ∷ []) fits.numbers
+node-counted laws Two node fits =
+    numbers_counted laws Commented node.parent (node.out ∷ node.extra ∷ node.share ∷ node.time ∷ []) fits.numbers
 
 -- ---- rows
 
 node_rows : Version → ℕ → List Node → List Row
 node_rows version n nodes = numbered_from n (map (node_line version) nodes)
 
-nodes_of-rows : AreLaws → (version : Version) (n : ℕ) (nodes : List Node) → All (IsPrintable version) nodes → map (node_of version) (node_rows version n nodes) ≡ nodes
+nodes_of-rows : AreLaws → (version : Version) (n : ℕ) (nodes : List Node)
+    → All (IsPrintable version) nodes → map (node_of version) (node_rows version n nodes) ≡ nodes
 unfolding node_rows
 nodes_of-rows laws version n [] fit = refl
 nodes_of-rows laws version n (node ∷ nodes) fit =
-    rw (fields_are laws version node (fit 0 node (omega arith))) (ap (λ (ns : List Node). node ∷ ns) (nodes_of-rows laws version (n + 1) nodes (All-tail (IsPrintable version) node nodes fit)))
+    rw (fields_are laws version node (fit 0 node (omega arith)))
+    (ap (λ (ns : List Node). node ∷ ns) (nodes_of-rows laws version (n + 1) nodes (All-tail (IsPrintable version) node nodes fit)))
 
 cons_same : {X : Type 0} (x y : X) (xs ys : List X) → x ≡ y → xs ≡ ys → x ∷ xs ≡ y ∷ ys
 cons_same x y xs ys e f = cc
@@ -89,7 +98,8 @@ record IsNodeSplit (version : Version) (n : ℕ) (nodes : List Node) (before : L
   row_is : row ≡ record { number = number; tokens = node_line version node }
   before_is : before ≡ node_rows version n first
 
-node_split : (version : Version) (n : ℕ) (nodes : List Node) (before : List Row) (row : Row) (after : List Row) → node_rows version n nodes ≡ before ++ row ∷ after → IsNodeSplit version n nodes before row
+node_split : (version : Version) (n : ℕ) (nodes : List Node) (before : List Row) (row : Row) (after : List Row)
+    → node_rows version n nodes ≡ before ++ row ∷ after → IsNodeSplit version n nodes before row
 unfolding node_rows
 node_split version n [] [] row after e = absurd cc
 node_split version n [] (b ∷ before) row after e = absurd cc
@@ -120,19 +130,28 @@ All-at : {X : Type 0} (P : X → Type 0) (xs : List X) (y : X) (ys : List X) →
 All-at P [] y ys all = all zero y (omega arith)
 All-at P (x ∷ xs) y ys all = All-at P xs y ys (All-tail P x (xs ++ y ∷ ys) all)
 
-total_of-rows : AreLaws → (version : Version) (n : ℕ) (nodes : List Node) → All (IsPrintable version) nodes → total_of version (node_rows version n nodes) ≡ sum_by node_size nodes
+total_of-rows : AreLaws → (version : Version) (n : ℕ) (nodes : List Node)
+    → All (IsPrintable version) nodes → total_of version (node_rows version n nodes) ≡ sum_by node_size nodes
 unfolding node_rows
 total_of-rows laws version n [] fit = refl
 total_of-rows laws version n (node ∷ nodes) fit =
     let size : Row → ℕ = λ row. node_size (node_of version row) in
     let row : Row = record { number = n; tokens = node_line version node } in
     let here : size row ≡ node_size node = rw (fields_are laws version node (fit 0 node (omega arith))) refl in
-    omega (arith, sum_by-cons size row (node_rows version (n + 1) nodes), sum_by-cons node_size node nodes, here, total_of-rows laws version (n + 1) nodes (All-tail (IsPrintable version) node nodes fit))
+    omega (
+      arith,
+      sum_by-cons size row (node_rows version (n + 1) nodes),
+      sum_by-cons node_size node nodes,
+      here,
+      total_of-rows laws version (n + 1) nodes (All-tail (IsPrintable version) node nodes fit),
+    )
 
 -- ---- tests of the lines
 
-node_passes : AreLaws → (version : Version) (count total number : ℕ) (node : Node) → IsPrintable version node → node.parent ≤ count → node.out ≤ most_size → node.extra ≤ most_size → 1 ≤ node.time → node.time ≤ most_time
-    → total + node.out + node.extra ≤ most_total → first_failure (node_tests version count total (record { number = number; tokens = node_line version node })) ≡ None
+node_passes : AreLaws → (version : Version) (count total number : ℕ) (node : Node) → IsPrintable version node
+    → node.parent ≤ count → node.out ≤ most_size → node.extra ≤ most_size → 1 ≤ node.time → node.time ≤ most_time
+    → total + node.out + node.extra ≤ most_total
+    → first_failure (node_tests version count total (record { number = number; tokens = node_line version node })) ≡ None
 node_passes laws version count total number node fits parent out extra some time sums =
     let positive : eqb node.time 0 ≡ false = ne_eqb node.time 0 (λ z. omega arith) in
     rw (
@@ -170,7 +189,8 @@ Passes before row = first_failure (tree_line_tests before row) ≡ None
 -- a header, a count, as many node lines and an end pass, where each does
 module _ (header counted last : Row) (rows : List Row) (whole : length rows ≡ node_count counted)
     (header_ok : first_failure (tree_header_tests header) ≡ None) (count_ok : first_failure (node_count_tests counted) ≡ None)
-    (rows_ok : (before after : List Row) (row : Row) → rows ≡ before ++ row ∷ after → first_failure (node_tests (tree_version header) (node_count counted) (total_of (tree_version header) before) row) ≡ None)
+    (rows_ok : (before after : List Row) (row : Row) → rows ≡ before ++ row ∷ after
+    → first_failure (node_tests (tree_version header) (node_count counted) (total_of (tree_version header) before) row) ≡ None)
     (last_ok : first_failure (last_tests kinds.Count last) ≡ None) where
   at_last : Passes (header ∷ counted ∷ rows) last
   unfolding Passes
@@ -182,7 +202,8 @@ module _ (header counted last : Row) (rows : List Row) (whole : length rows ≡ 
   at_node : (before after : List Row) (row : Row) → rows ≡ before ++ row ∷ after → Passes (header ∷ counted ∷ before) row
   unfolding Passes
   at_node before after row e =
-      let fewer : ltb (length before) (node_count counted) ≡ true = lt-ltb _ _ (omega (arith, whole, ap length e, length-append before (row ∷ after))) in
+      let fewer : ltb (length before) (node_count counted) ≡ true =
+      lt-ltb _ _ (omega (arith, whole, ap length e, length-append before (row ∷ after))) in
       rw fewer (rows_ok before after row e)
 
   all_passed : ArePassed tree_format (header ∷ counted ∷ (rows ++ last ∷ []))
@@ -197,7 +218,8 @@ module _ (header counted last : Row) (rows : List Row) (whole : length rows ≡ 
       let second : counted ≡ c = cc in
       let tail : rows ++ last ∷ [] ≡ before ++ row ∷ after = cc in
       let here : Passes (header ∷ counted ∷ before) row = elim (last_or_within rows last before row after tail) [
-        | inl end ↦ subst (λ (bs : List Row). Passes (header ∷ counted ∷ bs) row) (sym end.0) (subst (λ (r : Row). Passes (header ∷ counted ∷ rows) r) (sym end.1) at_last)
+        | inl end ↦ subst (λ (bs : List Row). Passes (header ∷ counted ∷ bs) row) (sym end.0)
+            (subst (λ (r : Row). Passes (header ∷ counted ∷ rows) r) (sym end.1) at_last)
         | inr more ↦ at_node before more.0 row more.1
       ] in
       subst (λ (b : Row). Passes (b ∷ c ∷ before) row) first (subst (λ (b : Row). Passes (header ∷ b ∷ before) row) second here)
@@ -214,14 +236,16 @@ fitting-share nodes tree i d lt =
     let at : node_at nodes (i + 1) ≡ get_or nodes i d = ap (λ (k : ℕ). get_or nodes k e) place ∙ get_or_default nodes i e d lt in
     subst (λ (n : Node). n.share ≤ n.extra + n.out) at share
 
-module _ (laws : AreLaws) (version : Version) (nodes : List Node) (tree : IsTree nodes) (unshared : version ≡ One → All (λ node. node.share ≡ 0) nodes) where
+module _ (laws : AreLaws) (version : Version) (nodes : List Node) (tree : IsTree nodes)
+    (unshared : version ≡ One → All (λ node. node.share ≡ 0) nodes) where
   printable : All (IsPrintable version) nodes
   printable i d lt =
       let within = tree.each i d lt in
       let node = get_or nodes i d in
       let share = fitting-share nodes tree i d lt in
       record {
-        numbers = small_numbers version node (omega (arith, within.parent, tree.few)) (omega (arith, within.out)) (omega (arith, within.extra))
+        numbers =
+            small_numbers version node (omega (arith, within.parent, tree.few)) (omega (arith, within.out)) (omega (arith, within.extra))
             (omega (arith, share, within.out, within.extra)) (omega (arith, within.time.1));
         unshared = λ e. unshared e i d lt;
       }
@@ -241,7 +265,8 @@ module _ (laws : AreLaws) (version : Version) (nodes : List Node) (tree : IsTree
 
   rows_are : numbered_from 1 (tree_lines version nodes) ≡ header ∷ counted ∷ (rows ++ last ∷ [])
   unfolding count_row node_rows
-  rows_are = ap (λ (rs : List Row). header_row (codes "tree") version ∷ count_row (length nodes) ∷ rs) (laws.parts 3 (map (node_line version) nodes) (end_line ∷ []))
+  rows_are = ap (λ (rs : List Row). header_row (codes "tree") version ∷ count_row (length nodes) ∷ rs)
+      (laws.parts 3 (map (node_line version) nodes) (end_line ∷ []))
 
   counted_is : node_count counted ≡ length nodes
   counted_is = count_is laws (length nodes) tree.few
@@ -250,36 +275,49 @@ module _ (laws : AreLaws) (version : Version) (nodes : List Node) (tree : IsTree
   unfolding node_rows
   rows_len = laws.count 3 (map (node_line version) nodes) ∙ length-map nodes (node_line version)
 
-  node_ok : (before after : List Row) (row : Row) → rows ≡ before ++ row ∷ after → first_failure (node_tests version (length nodes) (total_of version before) row) ≡ None
+  node_ok : (before after : List Row) (row : Row) → rows ≡ before ++ row ∷ after
+      → first_failure (node_tests version (length nodes) (total_of version before) row) ≡ None
   node_ok before after row e =
       let split = node_split version 3 nodes before row after e in
-      let within = All-at (IsNodeWithin nodes) split.first split.node split.rest (subst (All (IsNodeWithin nodes)) split.nodes_are tree.each) in
-      let fits = All-at (IsPrintable version) split.first split.node split.rest (subst (All (IsPrintable version)) split.nodes_are printable) in
-      let first = All-first (IsPrintable version) split.first (split.node ∷ split.rest) (subst (All (IsPrintable version)) split.nodes_are printable) in
-      let total : total_of version before ≡ sum_by node_size split.first = ap (total_of version) split.before_is ∙ total_of-rows laws version 3 split.first first in
-      let sums : sum_by node_size nodes ≡ sum_by node_size split.first + sum_by node_size (split.node ∷ split.rest) = ap (sum_by node_size) split.nodes_are ∙ sum_by-append node_size split.first (split.node ∷ split.rest) in
-      let small : total_of version before + split.node.out + split.node.extra ≤ most_total = omega (arith, total, sums, sum_by-cons node_size split.node split.rest, tree.total) in
+      let within =
+      All-at (IsNodeWithin nodes) split.first split.node split.rest (subst (All (IsNodeWithin nodes)) split.nodes_are tree.each) in
+      let fits =
+      All-at (IsPrintable version) split.first split.node split.rest (subst (All (IsPrintable version)) split.nodes_are printable) in
+      let first = All-first (IsPrintable version) split.first (split.node ∷ split.rest)
+      (subst (All (IsPrintable version)) split.nodes_are printable) in
+      let total : total_of version before ≡ sum_by node_size split.first =
+      ap (total_of version) split.before_is ∙ total_of-rows laws version 3 split.first first in
+      let sums : sum_by node_size nodes ≡ sum_by node_size split.first + sum_by node_size (split.node ∷ split.rest) =
+      ap (sum_by node_size) split.nodes_are ∙ sum_by-append node_size split.first (split.node ∷ split.rest) in
+      let small : total_of version before + split.node.out + split.node.extra ≤ most_total =
+      omega (arith, total, sums, sum_by-cons node_size split.node split.rest, tree.total) in
       subst (λ (r : Row). first_failure (node_tests version (length nodes) (total_of version before) r) ≡ None) (sym split.row_is)
-      (node_passes laws version (length nodes) (total_of version before) split.number split.node fits within.parent within.out within.extra within.time.0 within.time.1 small)
+      (node_passes laws version (length nodes)
+      (total_of version before) split.number split.node fits within.parent within.out within.extra within.time.0 within.time.1 small)
 
-  rows_ok : (before after : List Row) (row : Row) → rows ≡ before ++ row ∷ after → first_failure (node_tests (tree_version header) (node_count counted) (total_of (tree_version header) before) row) ≡ None
+  rows_ok : (before after : List Row) (row : Row) → rows ≡ before ++ row ∷ after
+      → first_failure (node_tests (tree_version header) (node_count counted) (total_of (tree_version header) before) row) ≡ None
   rows_ok before after row e = rw (header_is (codes "tree") version refl, counted_is) (node_ok before after row e)
 
   passed : ArePassed tree_format (header ∷ counted ∷ (rows ++ last ∷ []))
-  passed = all_passed header counted last rows (rows_len ∙ sym counted_is) (header_passes (codes "tree") kinds.Header version refl) (count_passes laws (length nodes) tree.some tree.few) rows_ok refl
+  passed = all_passed header counted last rows (rows_len ∙ sym counted_is)
+      (header_passes (codes "tree") kinds.Header version refl) (count_passes laws (length nodes) tree.some tree.few) rows_ok refl
 
   whole : is_tree_complete (header ∷ counted ∷ (rows ++ last ∷ [])) ≡ true
   whole = eq-eqb _ _ (omega (arith, length_push rows last, rows_len, counted_is))
 
   stated : nodes_stated (header ∷ counted ∷ (rows ++ last ∷ [])) ≡ nodes
   stated =
-      let cut : take (node_count counted) (rows ++ last ∷ []) ≡ rows = ap (λ (n : ℕ). take n (rows ++ last ∷ [])) (counted_is ∙ sym rows_len) ∙ take-append_seam rows (last ∷ []) in
-      ap (λ (v : Version). map (node_of v) (take (node_count counted) (rows ++ last ∷ []))) (header_is (codes "tree") version refl) ∙ ap (map (node_of version)) cut ∙ nodes_of-rows laws version 3 nodes printable
+      let cut : take (node_count counted) (rows ++ last ∷ []) ≡ rows =
+      ap (λ (n : ℕ). take n (rows ++ last ∷ [])) (counted_is ∙ sym rows_len) ∙ take-append_seam rows (last ∷ []) in
+      ap (λ (v : Version). map (node_of v) (take (node_count counted) (rows ++ last ∷ []))) (header_is (codes "tree") version refl)
+      ∙ ap (map (node_of version)) cut ∙ nodes_of-rows laws version 3 nodes printable
 
   -- the lines count
   nodes_counted : (ns : List Node) → All (IsPrintable version) ns → list_all (is_counted Commented) (map (node_line version) ns) ≡ true
   nodes_counted [] fit = refl
-  nodes_counted (n ∷ ns) fit = and_from _ _ (node-counted laws version n (fit 0 n (omega arith))) (nodes_counted ns (All-tail (IsPrintable version) n ns fit))
+  nodes_counted (n ∷ ns) fit =
+      and_from _ _ (node-counted laws version n (fit 0 n (omega arith))) (nodes_counted ns (All-tail (IsPrintable version) n ns fit))
 
   header_counted : (v : Version) → is_counted Commented (header_line (codes "tree") v) ≡ true
   header_counted One = refl
@@ -291,11 +329,13 @@ module _ (laws : AreLaws) (version : Version) (nodes : List Node) (tree : IsTree
   lines_counted : list_all (is_counted Commented) (tree_lines version nodes) ≡ true
   lines_counted =
       and_from _ _ (header_counted version) (and_from _ _ count_counted
-      (list_all-append (is_counted Commented) (map (node_line version) nodes) (end_line ∷ []) ∙ and_from _ _ (nodes_counted nodes printable) refl))
+      (list_all-append (is_counted Commented) (map (node_line version) nodes) (end_line ∷ [])
+      ∙ and_from _ _ (nodes_counted nodes printable) refl))
 
   pub printed-reads : ReadsTree (tree_text_in version nodes) nodes
   printed-reads =
-      let read : rows_of_bytes Commented (tree_text_in version nodes) ≡ header ∷ counted ∷ (rows ++ last ∷ []) = laws.rows Commented (tree_lines version nodes) lines_counted ∙ rows_are in
+      let read : rows_of_bytes Commented (tree_text_in version nodes) ≡ header ∷ counted ∷ (rows ++ last ∷ []) =
+      laws.rows Commented (tree_lines version nodes) lines_counted ∙ rows_are in
       record {
         form = record {
           lines = subst (ArePassed tree_format) (sym read) passed;

@@ -9,8 +9,10 @@ use Rattle.mp_text.specs.Grammar.{Test, ArePassed, fault}
 use Rattle.mp_text.specs.Reading.{Follows, tested}
 use Rattle.mp_text.specs.ReadingLaws.{tested-follows}
 use Rattle.trees.specs.Tree.{node_size}
-use Rattle.tree_files.specs.TreeFile.{tree_format, tree_line_tests, tree_end_tests, tree_header_tests, tree_version, node_count_tests, node_count, node_tests, node_of, total_of, tree_body_tests, is_tree_complete}
-use Rattle.tree_files.specs.Reader.{ReaderState, IsFresh, TookNodes, staged_step, staged_end, staged_took, body_step, with_node, tree_step, tree_end, took}
+use Rattle.tree_files.specs.TreeFile.{tree_format, tree_line_tests, tree_end_tests, tree_header_tests, tree_version, node_count_tests}
+use Rattle.tree_files.specs.TreeFile.{node_count, node_tests, node_of, total_of, tree_body_tests, is_tree_complete}
+use Rattle.tree_files.specs.Reader.{ReaderState, IsFresh, TookNodes, staged_step, staged_end, staged_took}
+use Rattle.tree_files.specs.Reader.{body_step, with_node, tree_step, tree_end, took}
 use Rattle.tree_files.specs.declared.kind.TreeKind.{TreeKind}
 use Rattle.tree_files.specs.declared.kind.TreeKind.TheVariants as kinds
 use Rattle.tree_files.specs.declared.stage.Stage.{Stage}
@@ -83,7 +85,8 @@ at_node s header counted row rows stage taken lt =
 
 at_last : (s : ReaderState) (header counted row : Row) (rows : List Row) → TookNodes s header counted rows
     → length rows ≡ node_count counted →
-    Follows (last_tests kinds.Count row) (IsNext (header ∷ counted ∷ (rows ++ row ∷ []))) (tested (last_tests kinds.Count row) (record s { stage = stages.Ended }))
+    Follows (last_tests kinds.Count row) (IsNext (header ∷ counted ∷ (rows ++ row ∷ [])))
+    (tested (last_tests kinds.Count row) (record s { stage = stages.Ended }))
 unfolding IsNext
 at_last s header counted row rows taken whole = tested-follows (last_tests kinds.Count row) _ _ (λ _. (
   record {

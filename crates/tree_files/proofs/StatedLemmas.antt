@@ -20,9 +20,12 @@ module _ (header counted last : Row) (rows : List Row) (whole : length rows ≡ 
 
   stated_is : nodes_stated all ≡ map (node_of (tree_version header)) rows
   unfolding all
-  stated_is = ap (map (node_of (tree_version header))) (ap (λ (n : ℕ). take n (rows ++ last ∷ [])) (sym whole) ∙ take-append_seam rows (last ∷ []))
+  stated_is =
+      ap (map (node_of (tree_version header))) (ap (λ (n : ℕ). take n (rows ++ last ∷ [])) (sym whole) ∙ take-append_seam rows (last ∷ []))
 
-  whole_stated : (bytes : List ℕ) (s : ReaderState) → rows_of_bytes Commented bytes ≡ header ∷ counted ∷ (rows ++ last ∷ []) → IsWellFormed tree_format (rows_of_bytes Commented bytes) (past_of_bytes bytes) → TookNodes s header counted rows → AreStated bytes s.nodes
+  whole_stated : (bytes : List ℕ) (s : ReaderState) → rows_of_bytes Commented bytes ≡ header ∷ counted ∷ (rows ++ last ∷ [])
+      → IsWellFormed tree_format (rows_of_bytes Commented bytes) (past_of_bytes bytes)
+      → TookNodes s header counted rows → AreStated bytes s.nodes
   unfolding all
   whole_stated bytes s rows_are form taken =
       let within = well_formed_within (rows_of_bytes Commented bytes) (past_of_bytes bytes) form in
@@ -34,13 +37,18 @@ module _ (header counted last : Row) (rows : List Row) (whole : length rows ≡ 
         within = kept;
       }
 
-staged_stated : (bytes : List ℕ) (stage : Stage) (s : ReaderState) → IsWellFormed tree_format (rows_of_bytes Commented bytes) (past_of_bytes bytes) → staged_took stage s (rows_of_bytes Commented bytes) → AreStated bytes s.nodes
+staged_stated : (bytes : List ℕ) (stage : Stage) (s : ReaderState)
+    → IsWellFormed tree_format (rows_of_bytes Commented bytes) (past_of_bytes bytes)
+    → staged_took stage s (rows_of_bytes Commented bytes) → AreStated bytes s.nodes
 staged_stated bytes stages.Header s form taken = absurd (cc (sym (ap is_tree_complete taken.0) ∙ complete _ _ form))
 staged_stated bytes stages.Count s form taken = absurd (cc (sym (ap is_tree_complete taken.rows_are) ∙ complete _ _ form))
 staged_stated bytes stages.Nodes s form taken =
-    let whole : (eqb (length taken.node_rows) (node_count taken.counted + 1)) ≡ true = sym (ap is_tree_complete taken.rows_are) ∙ complete _ _ form in
+    let whole : (eqb (length taken.node_rows) (node_count taken.counted + 1)) ≡ true =
+    sym (ap is_tree_complete taken.rows_are) ∙ complete _ _ form in
     absurd (let w = taken.nodes.within in omega (arith, eqb-true _ _ whole, w))
-staged_stated bytes stages.Ended s form taken = whole_stated taken.header taken.counted taken.last taken.node_rows taken.whole bytes s taken.rows_are form taken.nodes
+staged_stated bytes stages.Ended s form taken =
+    whole_stated taken.header taken.counted taken.last taken.node_rows taken.whole bytes s taken.rows_are form taken.nodes
 
-pub took_stated : (bytes : List ℕ) (s : ReaderState) → IsWellFormed tree_format (rows_of_bytes Commented bytes) (past_of_bytes bytes) → took s (rows_of_bytes Commented bytes) → AreStated bytes s.nodes
+pub took_stated : (bytes : List ℕ) (s : ReaderState) → IsWellFormed tree_format (rows_of_bytes Commented bytes) (past_of_bytes bytes)
+    → took s (rows_of_bytes Commented bytes) → AreStated bytes s.nodes
 took_stated bytes s form taken = staged_stated bytes s.stage s form taken

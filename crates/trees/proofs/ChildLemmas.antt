@@ -27,9 +27,11 @@ module _ (nodes : List Node) where
   unfolding parents none
   parent_at i lt =
       let place : (1 + i) - 1 ≡ i = omega arith in
-      sym (parent_is nodes (1 + i) (omega arith)) ∙ ap (λ (k : ℕ). (get_or nodes k none).parent) place ∙ sym (get_or-map parent_in nodes i none 0 lt)
+      sym (parent_is nodes (1 + i) (omega arith)) ∙ ap (λ (k : ℕ). (get_or nodes k none).parent) place
+      ∙ sym (get_or-map parent_in nodes i none 0 lt)
 
-  pub parents_within : ((i : ℕ) (d : Node) → i < length nodes → (get_or nodes i d).parent ≤ length nodes) → All (λ key. key < length nodes + 1) (map parent_in nodes)
+  pub parents_within : ((i : ℕ) (d : Node) → i < length nodes → (get_or nodes i d).parent ≤ length nodes)
+      → All (λ key. key < length nodes + 1) (map parent_in nodes)
   unfolding none
   parents_within within i d lt =
       let short : i < length nodes = omega (arith, length-map nodes parent_in, lt) in
@@ -39,17 +41,25 @@ module _ (nodes : List Node) where
   unfolding parents
   rows-children filtered p =
       let q : ℕ → Bool = λ v. eqb (parent_of_node nodes v) p in
-      sym (filtered (map parent_in nodes) 1 p q (λ i lt. ap (λ (u : ℕ). eqb u p) (parent_at i (omega (arith, length-map nodes parent_in, lt)))))
+      sym (filtered (map parent_in nodes) 1 p q
+      (λ i lt. ap (λ (u : ℕ). eqb u p) (parent_at i (omega (arith, length-map nodes parent_in, lt)))))
       ∙ ap (λ (n : ℕ). filter q (range_with_len 1 n)) (length-map nodes parent_in)
 
   pub children-few : (p : ℕ) → length (children_of nodes p) ≤ length nodes
   children-few p =
       let q : ℕ → Bool = λ v. eqb (parent_of_node nodes v) p in
-      omega (arith, length-filter q (range_with_len 1 (length nodes)), count_by-le-length q (range_with_len 1 (length nodes)), length-range_with_len 1 (length nodes))
+      omega (
+        arith,
+        length-filter q (range_with_len 1 (length nodes)),
+        count_by-le-length q (range_with_len 1 (length nodes)),
+        length-range_with_len 1 (length nodes),
+      )
 
 -- as the code reads a row
-pub row-length : (nodes : List Node) (rows : List (List ℕ)) → AreChildren nodes rows → (v : ℕ) → v ≤ length nodes → (row : List ℕ) → row ≡ row_at rows v → length row ≡ length (children_of nodes v)
+pub row-length : (nodes : List Node) (rows : List (List ℕ)) → AreChildren nodes rows → (v : ℕ)
+    → v ≤ length nodes → (row : List ℕ) → row ≡ row_at rows v → length row ≡ length (children_of nodes v)
 row-length nodes rows are v le row is = ap length (is ∙ are.rows_are v le)
 
-pub row-few : (nodes : List Node) (rows : List (List ℕ)) → AreChildren nodes rows → (v : ℕ) → v ≤ length nodes → (row : List ℕ) → row ≡ row_at rows v → length row ≤ length nodes
+pub row-few : (nodes : List Node) (rows : List (List ℕ)) → AreChildren nodes rows → (v : ℕ)
+    → v ≤ length nodes → (row : List ℕ) → row ≡ row_at rows v → length row ≤ length nodes
 row-few nodes rows are v le row is = omega (arith, row-length nodes rows are v le row is, children-few nodes v)

@@ -1,5 +1,6 @@
 -- How often numbers stand in lists, and lists that have each number of a range once.
-use Rattle.std.proofs.Common.{◌≡◌, ◌≢◌, ℕ, zero, suc, ◌+◌, ◌<◌, ◌≤◌, ◌⊎◌, inl, inr, Bool, true, false, cond, eqb, eq-eqb, List, [], ◌∷◌, ◌++◌, count_by, filter, IsPermutation, refl, sym, ap, subst, ◌∙◌, arith}
+use Rattle.std.proofs.Common.{◌≡◌, ◌≢◌, ℕ, zero, suc, ◌+◌, ◌<◌, ◌≤◌, ◌⊎◌, inl, inr, Bool, true, false, cond, eqb, eq-eqb}
+use Rattle.std.proofs.Common.{List, [], ◌∷◌, ◌++◌, count_by, filter, IsPermutation, refl, sym, ap, subst, ◌∙◌, arith}
 use Rattle.std.specs.List.{range_with_len, AllByRecursion}
 use Rattle.std.proofs.lemmas.List.Sums.{sum_by-cons, sum_by-append}
 use Rattle.std.proofs.lemmas.List.Sorted.{IsPermutation-refl, IsPermutation-trans, IsPermutation-cons, IsPermutation-middle}
@@ -44,22 +45,36 @@ times-filter_none p (x ∷ xs) v fails = go (p x) refl (times-filter_none p xs v
 pub times-range_low : (a n v : ℕ) → v < a → times (range_with_len a n) v ≡ 0
 times-range_low a zero v lt = refl
 times-range_low a (suc n) v lt =
-    omega (arith, times-cons a (range_with_len (a + 1) n) v, bit-other a v (omega (arith, lt)), times-range_low (a + 1) n v (omega (arith, lt)))
+    omega (
+      arith,
+      times-cons a (range_with_len (a + 1) n) v,
+      bit-other a v (omega (arith, lt)),
+      times-range_low (a + 1) n v (omega (arith, lt)),
+    )
 
 pub times-range : (a n v : ℕ) → a ≤ v → v < a + n → times (range_with_len a n) v ≡ 1
 times-range a zero v low high = absurd (omega (arith, low, high))
 times-range a (suc n) v low high = elim (cases_eq a v) [
-  | inl same ↦ omega (arith, times-cons a (range_with_len (a + 1) n) v, bit-same a v same, times-range_low (a + 1) n v (omega (arith, same)))
-  | inr other ↦ omega (arith, times-cons a (range_with_len (a + 1) n) v, bit-other a v other, times-range (a + 1) n v (omega (arith, low, other)) (omega (arith, high)))
+  | inl same ↦
+      omega (arith, times-cons a (range_with_len (a + 1) n) v, bit-same a v same, times-range_low (a + 1) n v (omega (arith, same)))
+  | inr other ↦ omega (
+    arith,
+    times-cons a (range_with_len (a + 1) n) v,
+    bit-other a v other,
+    times-range (a + 1) n v (omega (arith, low, other)) (omega (arith, high)),
+  )
 ]
 
 -- what holds of each number of a range that passes a test
-pub each-filter_range : (P : ℕ → Type 0) (p : ℕ → Bool) (a n : ℕ) → ((v : ℕ) → a ≤ v → v < a + n → p v ≡ true → P v) → AllByRecursion P (filter p (range_with_len a n))
+pub each-filter_range : (P : ℕ → Type 0) (p : ℕ → Bool) (a n : ℕ)
+    → ((v : ℕ) → a ≤ v → v < a + n → p v ≡ true → P v) → AllByRecursion P (filter p (range_with_len a n))
 each-filter_range P p a zero h = tt
-each-filter_range P p a (suc n) h = go (p a) refl (each-filter_range P p (a + 1) n (λ v low high passes. h v (omega (arith, low)) (omega (arith, high)) passes)) where
-  go : (b : Bool) → p a ≡ b → AllByRecursion P (filter p (range_with_len (a + 1) n)) → AllByRecursion P (filter p (range_with_len a (suc n)))
-  go true e rest = rw e (h a (omega arith) (omega arith) e, rest)
-  go false e rest = rw e rest
+each-filter_range P p a (suc n) h =
+    go (p a) refl (each-filter_range P p (a + 1) n (λ v low high passes. h v (omega (arith, low)) (omega (arith, high)) passes)) where
+      go : (b : Bool) → p a ≡ b → AllByRecursion P (filter p (range_with_len (a + 1) n))
+          → AllByRecursion P (filter p (range_with_len a (suc n)))
+      go true e rest = rw e (h a (omega arith) (omega arith) e, rest)
+      go false e rest = rw e rest
 
 -- ---- permutations of a range
 
@@ -79,7 +94,8 @@ found x (y ∷ ys) some = elim (cases_eq y x) [
 ]
 
 -- a list that has each number of a range once, and no other, is a permutation of the range
-pub permutation-range : (n a : ℕ) (xs : List ℕ) → ((v : ℕ) → a ≤ v → v < a + n → times xs v ≡ 1) → ((v : ℕ) → (v < a) ⊎ (a + n ≤ v) → times xs v ≡ 0)
+pub permutation-range : (n a : ℕ) (xs : List ℕ) → ((v : ℕ) → a ≤ v → v < a + n → times xs v ≡ 1)
+    → ((v : ℕ) → (v < a) ⊎ (a + n ≤ v) → times xs v ≡ 0)
     → IsPermutation xs (range_with_len a n)
 permutation-range zero a [] once none = IsPermutation-refl []
 permutation-range zero a (x ∷ xs) once none =
@@ -97,7 +113,8 @@ permutation-range (suc n) a xs once none =
       | inr other ↦ omega (arith, counted v, bit-other a v other, none v (apart v other out))
     ]) in
     subst (λ (z : List ℕ). IsPermutation z (range_with_len a (suc n))) (sym f.is)
-    (IsPermutation-trans (f.before ++ a ∷ f.after) (a ∷ rest) (range_with_len a (suc n)) (IsPermutation-middle f.before a f.after) (IsPermutation-cons a rest (range_with_len (a + 1) n) tail))
+    (IsPermutation-trans (f.before ++ a ∷ f.after) (a ∷ rest) (range_with_len a (suc n))
+    (IsPermutation-middle f.before a f.after) (IsPermutation-cons a rest (range_with_len (a + 1) n) tail))
   where
     apart : (v : ℕ) → a ≢ v → (v < a + 1) ⊎ (a + 1 + n ≤ v) → (v < a) ⊎ (a + suc n ≤ v)
     apart v ne (inl lt) = inl (omega (arith, ne, lt))

@@ -1,5 +1,6 @@
 -- The nodes of a tree form one forest, and each of them stands in it once.
-use Rattle.std.proofs.Common.{◌≡◌, ◌≢◌, ℕ, zero, suc, ◌+◌, ◌-◌, ◌<◌, ◌≤◌, ◌⊎◌, inl, inr, eqb, eq-eqb, List, [], ◌∷◌, ◌++◌, length, IsPermutation, refl, sym, ap, subst, ◌∙◌, arith}
+use Rattle.std.proofs.Common.{◌≡◌, ◌≢◌, ℕ, zero, suc, ◌+◌, ◌-◌, ◌<◌, ◌≤◌, ◌⊎◌, inl, inr, eqb, eq-eqb, List}
+use Rattle.std.proofs.Common.{[], ◌∷◌, ◌++◌, length, IsPermutation, refl, sym, ap, subst, ◌∙◌, arith}
 use Rattle.std.specs.List.{range_with_len, All, AllByRecursion}
 use Rattle.std.proofs.lemmas.List.Elements.{All-nil, All-cons, All-append}
 use Rattle.std.proofs.lemmas.List.FromFn.{length-range_with_len}
@@ -9,7 +10,8 @@ use Rattle.trees.specs.declared.node.Node.{Node}
 use Rattle.trees.specs.Tree.{IsNode, IsTree, parent_of_node, ancestor}
 use Rattle.trees.specs.Forest.{Forest, no_trees, tree, roots_of, all_numbers, children_of, HasChildren, IsForestOf}
 use Rattle.trees.proofs.AscentLemmas.{ancestor-one, ancestor-none, ancestor-add}
-use Rattle.trees.proofs.CountLemmas.{bit, times, bit-same, bit-other, times-cons, times-append, times-filter, times-filter_none, times-range, each-filter_range, permutation-range}
+use Rattle.trees.proofs.CountLemmas.{bit, times, bit-same, bit-other, times-cons, times-append, times-filter}
+use Rattle.trees.proofs.CountLemmas.{times-filter_none, times-range, each-filter_range, permutation-range}
 
 -- a node whose parent is p
 abbrev pub IsChild : List Node → ℕ → ℕ → Type 0
@@ -24,9 +26,11 @@ module _ (nodes : List Node) where
 
   pub times-children : (p v : ℕ) → IsNode nodes v → times (children_of nodes p) v ≡ bit p (parent_of_node nodes v)
   times-children p v node = elim (cases_eq (parent_of_node nodes v) p) [
-    | inl same ↦ times-filter (λ u. eqb (parent_of_node nodes u) p) (range_with_len 1 (length nodes)) v (eq-eqb (parent_of_node nodes v) p same)
+    | inl same ↦
+        times-filter (λ u. eqb (parent_of_node nodes u) p) (range_with_len 1 (length nodes)) v (eq-eqb (parent_of_node nodes v) p same)
         ∙ times-range 1 (length nodes) v node.0 (omega (arith, node.1)) ∙ sym (bit-same p (parent_of_node nodes v) (sym same))
-    | inr other ↦ times-filter_none (λ u. eqb (parent_of_node nodes u) p) (range_with_len 1 (length nodes)) v (ne_eqb (parent_of_node nodes v) p other)
+    | inr other ↦ times-filter_none (λ u. eqb (parent_of_node nodes u) p)
+        (range_with_len 1 (length nodes)) v (ne_eqb (parent_of_node nodes v) p other)
         ∙ sym (bit-other p (parent_of_node nodes v) (λ e. other (sym e)))
   ]
 
@@ -68,7 +72,8 @@ module _ (nodes : List Node) where
       )
 
   -- a node stands in a forest as often as on top of it, and as often as its parent
-  pub times-forest : (f : Forest) (v : ℕ) → HasChildren nodes f → IsNode nodes v → times (all_numbers f) v ≡ times (roots_of f) v + times (all_numbers f) (parent_of_node nodes v)
+  pub times-forest : (f : Forest) (v : ℕ) → HasChildren nodes f → IsNode nodes v
+      → times (all_numbers f) v ≡ times (roots_of f) v + times (all_numbers f) (parent_of_node nodes v)
   times-forest no_trees v h node = refl
   times-forest (tree u children others) v (is, below, beside) node =
       let up = parent_of_node nodes v in
@@ -96,22 +101,35 @@ module _ (nodes : List Node) where
         let all : times (all_numbers f) v ≡ times (roots_of f) v + times (all_numbers f) up = times-forest f v h.below node in
         let top : times (roots_of f) v ≡ bit 0 up = ap (λ (xs : List ℕ). times xs v) h.roots ∙ times-children 0 v node in
         elim (cases_eq up 0) [
-          | inl none ↦ omega (arith, all, top, bit-same 0 up (sym none), times-outside 0 f up (forest-hangs f h) (inl (omega (arith, none))))
-          | inr some ↦ omega (arith, all, top, bit-other 0 up (λ e. some (sym e)), once-up k up (omega (arith, some), high v node) (sym (ancestor-one nodes k v) ∙ ends))
+          | inl none ↦
+              omega (arith, all, top, bit-same 0 up (sym none), times-outside 0 f up (forest-hangs f h) (inl (omega (arith, none))))
+          | inr some ↦ omega (
+            arith,
+            all,
+            top,
+            bit-other 0 up (λ e. some (sym e)),
+            once-up k up (omega (arith, some), high v node) (sym (ancestor-one nodes k v) ∙ ends),
+          )
         ]
       where
         high : (v : ℕ) → IsNode nodes v → parent_of_node nodes v ≤ length nodes
         high zero node = omega arith
-        high (suc i) node = (is.each (suc i - 1) (record { parent = 0; out = 0; extra = 0; share = 0; time = 0 }) (omega (arith, node.1))).parent
+        high (suc i) node =
+            (is.each (suc i - 1) (record { parent = 0; out = 0; extra = 0; share = 0; time = 0 }) (omega (arith, node.1))).parent
 
     pub once : (v : ℕ) → IsNode nodes v → times (all_numbers f) v ≡ 1
     once v node = once-up (length nodes) v node (is.roots v node)
 
     pub forest-each : IsPermutation (all_numbers f) (range_with_len 1 (length nodes))
-    forest-each = permutation-range (length nodes) 1 (all_numbers f) (λ v low high. once v (low, omega (arith, high))) (λ v out. times-outside 0 f v (forest-hangs f h) out)
+    forest-each = permutation-range (length nodes) 1 (all_numbers f)
+        (λ v low high. once v (low, omega (arith, high))) (λ v out. times-outside 0 f v (forest-hangs f h) out)
 
     pub forest-length : length (all_numbers f) ≡ length nodes
-    forest-length = omega (arith, length_permutation (all_numbers f) (range_with_len 1 (length nodes)) forest-each, length-range_with_len 1 (length nodes))
+    forest-length = omega (
+      arith,
+      length_permutation (all_numbers f) (range_with_len 1 (length nodes)) forest-each,
+      length-range_with_len 1 (length nodes),
+    )
 
   -- ---- there is one
 
@@ -134,7 +152,8 @@ module _ (nodes : List Node) where
     roots : roots_of f ≡ children_of nodes v
     below : HasChildren nodes f
 
-  children-with : (below : ℕ → Forest) (vs : List ℕ) → AllByRecursion (λ v. IsBelow (below v) v) vs → HasChildren nodes (trees_with below vs)
+  children-with : (below : ℕ → Forest) (vs : List ℕ)
+      → AllByRecursion (λ v. IsBelow (below v) v) vs → HasChildren nodes (trees_with below vs)
   unfolding trees_with
   children-with below [] each = tt
   children-with below (v ∷ vs) (one, each) = (one.roots, one.below, children-with below vs each)
@@ -146,9 +165,12 @@ module _ (nodes : List Node) where
   shallow-child : (k p c : ℕ) → IsShallow (suc k) p → parent_of_node nodes c ≡ p → IsShallow k c
   shallow-child k p c none up v node e =
       let more : k + 1 ≡ suc k = omega arith in
-      none v node (ap (λ (j : ℕ). ancestor nodes j v) (sym more) ∙ ancestor-add nodes k 1 v ∙ ap (ancestor nodes 1) e ∙ ancestor-one nodes 0 c ∙ ancestor-none nodes (parent_of_node nodes c) ∙ up)
+      none v node
+      (ap (λ (j : ℕ). ancestor nodes j v) (sym more) ∙ ancestor-add nodes k 1 v ∙ ap (ancestor nodes 1) e
+      ∙ ancestor-one nodes 0 c ∙ ancestor-none nodes (parent_of_node nodes c) ∙ up)
 
-  each-below : (k p : ℕ) (vs : List ℕ) → ((c : ℕ) → IsChild nodes p c → IsBelow (trees_to k (children_of nodes c)) c) → AllByRecursion (IsChild nodes p) vs → AllByRecursion (λ v. IsBelow (trees_to k (children_of nodes v)) v) vs
+  each-below : (k p : ℕ) (vs : List ℕ) → ((c : ℕ) → IsChild nodes p c → IsBelow (trees_to k (children_of nodes c)) c)
+      → AllByRecursion (IsChild nodes p) vs → AllByRecursion (λ v. IsBelow (trees_to k (children_of nodes v)) v) vs
   each-below k p [] one each = tt
   each-below k p (v ∷ vs) one (child, each) = (one v child, each-below k p vs one each)
 
@@ -157,7 +179,8 @@ module _ (nodes : List Node) where
   grown zero p node none = absurd (none p node (ancestor-none nodes p))
   grown (suc k) p node none = record {
     roots = roots-with (λ v. trees_to k (children_of nodes v)) (children_of nodes p);
-    below = children-with (λ v. trees_to k (children_of nodes v)) (children_of nodes p) (each-below k p (children_of nodes p) (λ c child. grown k c child.0 (shallow-child k p c none child.1)) (children-are p));
+    below = children-with (λ v. trees_to k (children_of nodes v)) (children_of nodes p)
+        (each-below k p (children_of nodes p) (λ c child. grown k c child.0 (shallow-child k p c none child.1)) (children-are p));
   }
 
   pub forest-some : IsTree nodes → (f : Forest) × IsForestOf nodes f
@@ -167,7 +190,9 @@ module _ (nodes : List Node) where
         trees_with below (children_of nodes 0),
         record {
           roots = roots-with below (children_of nodes 0);
-          below = children-with below (children_of nodes 0) (each-below n 0 (children_of nodes 0) (λ c child. grown n c child.0 (λ v node e. absurd (omega (arith, child.0.0, sym e ∙ is.roots v node)))) (children-are 0));
+          below = children-with below (children_of nodes 0)
+              (each-below n 0 (children_of nodes 0)
+              (λ c child. grown n c child.0 (λ v node e. absurd (omega (arith, child.0.0, sym e ∙ is.roots v node)))) (children-are 0));
         },
       )
 

@@ -36,12 +36,13 @@ pub are_within : (nodes : List Node) → PassAll nodes → HasTotal nodes → Ar
 are_within nodes pass total = record {
   some = pass.counted.0;
   few = pass.counted.1;
-  each = All-from_get_or (IsNodeWithin nodes) nodes none (λ i inside. let s = sizes_fit nodes (pass.each tests.Size) i none inside in record {
-    parent = parents_fit nodes (pass.each tests.Parent) i none inside;
-    out = s.0;
-    extra = s.1;
-    time = times_fit nodes (pass.each tests.Time) (pass.each tests.LongTime) i none inside;
-  });
+  each =
+      All-from_get_or (IsNodeWithin nodes) nodes none (λ i inside. let s = sizes_fit nodes (pass.each tests.Size) i none inside in record {
+        parent = parents_fit nodes (pass.each tests.Parent) i none inside;
+        out = s.0;
+        extra = s.1;
+        time = times_fit nodes (pass.each tests.Time) (pass.each tests.LongTime) i none inside;
+      });
   total = total;
 }
 

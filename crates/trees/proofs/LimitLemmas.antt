@@ -81,9 +81,23 @@ module _ (nodes : List Node) (is : IsTree nodes) where
       let y = at_task (task_of_node (node_at nodes v)) in
       let w = node-within v node in
       record {
-        within = All-append IsWithinLimits b (x ∷ (y ∷ [])) (beside-within n) (All-cons IsWithinLimits x (y ∷ []) w.out (one-within y (w.extra, w.time.0, w.time.1)));
-        sizes = omega (arith, sum_by-append added_size b (x ∷ (y ∷ [])), beside-sizes n, sum_by-cons added_size x (y ∷ []), sum_by-cons added_size y [], sum_by-cons (λ u. node_size (node_at nodes u)) v []);
-        tasks = omega (arith, sum_by-append added_tasks b (x ∷ (y ∷ [])), beside-tasks n, sum_by-cons added_tasks x (y ∷ []), sum_by-cons added_tasks y []);
+        within = All-append IsWithinLimits b (x ∷ (y ∷ [])) (beside-within n)
+            (All-cons IsWithinLimits x (y ∷ []) w.out (one-within y (w.extra, w.time.0, w.time.1)));
+        sizes = omega (
+          arith,
+          sum_by-append added_size b (x ∷ (y ∷ [])),
+          beside-sizes n,
+          sum_by-cons added_size x (y ∷ []),
+          sum_by-cons added_size y [],
+          sum_by-cons (λ u. node_size (node_at nodes u)) v [],
+        );
+        tasks = omega (
+          arith,
+          sum_by-append added_tasks b (x ∷ (y ∷ [])),
+          beside-tasks n,
+          sum_by-cons added_tasks x (y ∷ []),
+          sum_by-cons added_tasks y [],
+        );
         few = omega (arith, length-append b (x ∷ (y ∷ [])), beside-length n);
       }
 
@@ -92,9 +106,12 @@ module _ (nodes : List Node) (is : IsTree nodes) where
   tree-sums p (tree v cs ts) (child, below, beside) =
       let b = beside_positions (length (roots_of cs)) in
       let inner : AreSums ((tree_positions nodes cs ++ b) ++ own_positions nodes v) (all_numbers cs ++ v ∷ []) =
-      subst (λ (z : List Position). AreSums z (all_numbers cs ++ v ∷ [])) (sym (append_assoc (tree_positions nodes cs) b (own_positions nodes v)))
-      (sums-append (tree_positions nodes cs) (b ++ own_positions nodes v) (all_numbers cs) (v ∷ []) (tree-sums v cs below) (own-sums (length (roots_of cs)) v child.0)) in
-      sums-append ((tree_positions nodes cs ++ b) ++ own_positions nodes v) (tree_positions nodes ts) (all_numbers cs ++ v ∷ []) (all_numbers ts) inner (tree-sums p ts beside)
+      subst (λ (z : List Position). AreSums z (all_numbers cs ++ v ∷ []))
+      (sym (append_assoc (tree_positions nodes cs) b (own_positions nodes v)))
+      (sums-append (tree_positions nodes cs) (b ++ own_positions nodes v) (all_numbers cs)
+      (v ∷ []) (tree-sums v cs below) (own-sums (length (roots_of cs)) v child.0)) in
+      sums-append ((tree_positions nodes cs ++ b) ++ own_positions nodes v) (tree_positions nodes ts)
+      (all_numbers cs ++ v ∷ []) (all_numbers ts) inner (tree-sums p ts beside)
 
   -- ---- shares
 
@@ -107,8 +124,10 @@ module _ (nodes : List Node) (is : IsTree nodes) where
   parts-allowed p (tree v cs ts) (child, below, beside) (roots, below', beside') =
       let share = is.shares v child.0 in
       let left : first_memory backward (side (tree_parts nodes cs)) ≡ children_out nodes v =
-      side-final (tree_parts nodes cs) ∙ parts-final cs ∙ ap (sum_by (λ u. (node_at nodes u).out)) roots ∙ outs-all nodes v in
-      ((omega (arith, share.0, left), share.1, side-allowed (tree_parts nodes cs) (parts-allowed v cs below below'), tt), parts-allowed p ts beside beside')
+      side-final (tree_parts nodes cs) ∙ parts-final cs ∙ ap (sum_by (λ u. (node_at nodes u).out)) roots ∙ outs-all nodes v in (
+        (omega (arith, share.0, left), share.1, side-allowed (tree_parts nodes cs) (parts-allowed v cs below below'), tt),
+        parts-allowed p ts beside beside',
+      )
 
   -- ---- the whole
 
@@ -120,7 +139,9 @@ module _ (nodes : List Node) (is : IsTree nodes) where
     term-same = ap (λ o. last_term (stack_from o)) term-denotes
 
     numbers-size : sum_by (λ v. node_size (node_at nodes v)) (all_numbers f) ≡ sum_by node_size nodes
-    numbers-size = sym (sum_by-IsPermutation (λ v. node_size (node_at nodes v)) (all_numbers f) (range_with_len 1 (length nodes)) (forest-each nodes is f h)) ∙ sizes-all nodes
+    numbers-size = sym (sum_by-IsPermutation (λ v. node_size (node_at nodes v))
+        (all_numbers f) (range_with_len 1 (length nodes)) (forest-each nodes is f h))
+        ∙ sizes-all nodes
 
     term-leaves : Leaves (forest_positions nodes f) (forest_term nodes f ∷ [])
     term-leaves =
@@ -132,12 +153,17 @@ module _ (nodes : List Node) (is : IsTree nodes) where
           allowed = (side-allowed (tree_parts nodes f) (parts-allowed 0 f (forest-hangs nodes f h) h.below), tt);
           within = All-append IsWithinLimits a b s.within (beside-within (length (roots_of f)));
           few = omega (arith, length-append a b, s.few, forest-length nodes is f h, is.few, beside-length (length (roots_of f)));
-          few_tasks = omega (arith, sum_by-append added_tasks a b, s.tasks, forest-length nodes is f h, is.few, beside-tasks (length (roots_of f)));
+          few_tasks = omega
+              (arith, sum_by-append added_tasks a b, s.tasks, forest-length nodes is f h, is.few, beside-tasks (length (roots_of f)));
           total = omega (arith, sum_by-append added_size a b, s.sizes, numbers-size, is.total, beside-sizes (length (roots_of f)));
         }
 
-pub tree-terms : (nodes : List Node) (f : Forest) → IsTree nodes → IsForestOf nodes f → ((t : Term) → Denotes (postfix t) t) → IsTerms (forest_positions nodes f)
-tree-terms nodes f is h form = subst (λ (t : Term). Leaves (forest_positions nodes f) (t ∷ [])) (sym (term-same nodes is f h form)) (term-leaves nodes is f h form)
+pub tree-terms : (nodes : List Node) (f : Forest) → IsTree nodes → IsForestOf nodes f
+    → ((t : Term) → Denotes (postfix t) t) → IsTerms (forest_positions nodes f)
+tree-terms nodes f is h form =
+    subst (λ (t : Term). Leaves (forest_positions nodes f) (t ∷ [])) (sym (term-same nodes is f h form)) (term-leaves nodes is f h form)
 
-pub tree-renamed : (nodes : List Node) (f : Forest) → IsTree nodes → IsForestOf nodes f → ((t : Term) → Denotes (postfix t) t) → IsRenamed (all_numbers f) (system_of_term (term_of (forest_positions nodes f))) (system_of_nodes nodes)
-tree-renamed nodes f is h form = subst (λ (t : Term). IsRenamed (all_numbers f) (system_of_term t) (system_of_nodes nodes)) (sym (term-same nodes is f h form)) (term-renamed nodes f is h)
+pub tree-renamed : (nodes : List Node) (f : Forest) → IsTree nodes → IsForestOf nodes f → ((t : Term) → Denotes (postfix t) t)
+    → IsRenamed (all_numbers f) (system_of_term (term_of (forest_positions nodes f))) (system_of_nodes nodes)
+tree-renamed nodes f is h form = subst (λ (t : Term). IsRenamed (all_numbers f) (system_of_term t) (system_of_nodes nodes))
+    (sym (term-same nodes is f h form)) (term-renamed nodes f is h)

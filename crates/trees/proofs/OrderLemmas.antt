@@ -14,7 +14,8 @@ beyond (tree v cs ts) us = tree v cs (beyond ts us)
 beyond-numbers : (ts us : Forest) → all_numbers (beyond ts us) ≡ all_numbers ts ++ all_numbers us
 beyond-numbers no_trees us = refl
 beyond-numbers (tree v cs ts) us =
-    ap (λ (z : List ℕ). (all_numbers cs ++ v ∷ []) ++ z) (beyond-numbers ts us) ∙ sym (append_assoc (all_numbers cs ++ v ∷ []) (all_numbers ts) (all_numbers us))
+    ap (λ (z : List ℕ). (all_numbers cs ++ v ∷ []) ++ z) (beyond-numbers ts us)
+    ∙ sym (append_assoc (all_numbers cs ++ v ∷ []) (all_numbers ts) (all_numbers us))
 
 beyond-roots : (ts us : Forest) → roots_of (beyond ts us) ≡ roots_of ts ++ roots_of us
 beyond-roots no_trees us = refl
@@ -41,7 +42,8 @@ module _ (nodes : List Node) where
     pub whole_are : AreWhole trees
     pub all : all_numbers f ≡ all_numbers trees ++ reverse found
 
-  pub walk-start : (f : Forest) (pending before found : List ℕ) → IsForestOf nodes f → before ≡ [] → found ≡ [] → pending ≡ before ++ children_of nodes 0 → IsWalk f pending found
+  pub walk-start : (f : Forest) (pending before found : List ℕ) → IsForestOf nodes f
+      → before ≡ [] → found ≡ [] → pending ≡ before ++ children_of nodes 0 → IsWalk f pending found
   walk-start f pending before found h none nothing e = record {
     trees = f;
     roots_are = e ∙ ap (λ (z : List ℕ). z ++ children_of nodes 0) none ∙ sym h.roots;
@@ -94,16 +96,19 @@ module _ (nodes : List Node) where
     pub fewer : length found < length (all_numbers f)
     pub next : IsWalk f (popped ++ children_of nodes v) (found ++ v ∷ [])
 
-  pub walk-next : (f : Forest) (pending popped found : List ℕ) (v : ℕ) → pending ≡ popped ++ v ∷ [] → IsWalk f pending found → Walked f popped found v
+  pub walk-next : (f : Forest) (pending popped found : List ℕ) (v : ℕ)
+      → pending ≡ popped ++ v ∷ [] → IsWalk f pending found → Walked f popped found v
   walk-next f pending popped found v is h = go h.trees (sym h.roots_are ∙ is) h.whole_are h.all
     where
-      go : (ts : Forest) → roots_of ts ≡ popped ++ v ∷ [] → AreWhole ts → all_numbers f ≡ all_numbers ts ++ reverse found → Walked f popped found v
+      go : (ts : Forest) → roots_of ts ≡ popped ++ v ∷ [] → AreWhole ts
+          → all_numbers f ≡ all_numbers ts ++ reverse found → Walked f popped found v
       go no_trees e w a = absurd (omega (arith, ap length e, length-append popped (v ∷ [])))
       go (tree u cs ts) e w a =
           let y = last-of u cs ts w in
           let same = same_from_push popped (roots_of y.rest) v y.v (sym e ∙ y.roots_are) in
           let top : y.v ≡ v = sym same.1 in
-          let numbers : all_numbers (tree u cs ts) ≡ all_numbers y.rest ++ (all_numbers y.kids ++ v ∷ []) = y.numbers_are ∙ ap (λ (z : ℕ). all_numbers y.rest ++ (all_numbers y.kids ++ z ∷ [])) top in
+          let numbers : all_numbers (tree u cs ts) ≡ all_numbers y.rest ++ (all_numbers y.kids ++ v ∷ []) =
+          y.numbers_are ∙ ap (λ (z : ℕ). all_numbers y.rest ++ (all_numbers y.kids ++ z ∷ [])) top in
           record {
             node = subst (IsNode nodes) top y.node;
             fewer = omega (
@@ -119,7 +124,9 @@ module _ (nodes : List Node) where
               trees = beyond y.rest y.kids;
               roots_are = (λ i. same.0 i ++ (ap (children_of nodes) (sym top) ∙ sym y.kids_are) i) ∙ sym (beyond-roots y.rest y.kids);
               whole_are = beyond-whole y.rest y.kids y.rest_whole y.kids_whole;
-              all = a ∙ ap (λ (z : List ℕ). z ++ reverse found) (numbers ∙ sym (append_assoc (all_numbers y.rest) (all_numbers y.kids) (v ∷ [])))
+              all = a
+                  ∙ ap (λ (z : List ℕ). z ++ reverse found)
+                  (numbers ∙ sym (append_assoc (all_numbers y.rest) (all_numbers y.kids) (v ∷ [])))
                   ∙ append_assoc (all_numbers y.rest ++ all_numbers y.kids) (v ∷ []) (reverse found)
                   ∙ (λ i. sym (beyond-numbers y.rest y.kids) i ++ sym (reverse-append found (v ∷ [])) i);
             };

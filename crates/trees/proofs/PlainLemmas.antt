@@ -9,7 +9,8 @@ module _ (nodes : List Node) (plain : IsPlain nodes) (each : All (IsNodeWithin n
   plain_at : (v : ℕ) → IsNode nodes v → IsPlainAt v (node_at nodes v)
   plain_at v node =
       let at : v - 1 + 1 ≡ v = omega (arith, node.0) in
-      subst (λ (n : ℕ). IsPlainAt n (node_at nodes v)) at (plain (v - 1) (record { parent = 0; out = 0; extra = 0; share = 0; time = 0 }) (omega (arith, node.0, node.1)))
+      subst (λ (n : ℕ). IsPlainAt n (node_at nodes v))
+      at (plain (v - 1) (record { parent = 0; out = 0; extra = 0; share = 0; time = 0 }) (omega (arith, node.0, node.1)))
 
   parent_is : (v : ℕ) → IsNode nodes v → parent_of_node nodes v ≡ (node_at nodes v).parent
   parent_is zero node = absurd (omega (arith, node.0))
@@ -24,7 +25,8 @@ module _ (nodes : List Node) (plain : IsPlain nodes) (each : All (IsNodeWithin n
         | inl root ↦ inl (up ∙ rw (parent_is v node ∙ root) (ancestor-zero nodes k))
         | inr above ↦ (
             let parent = node_at nodes v in
-            let within = (each (v - 1) (record { parent = 0; out = 0; extra = 0; share = 0; time = 0 }) (omega (arith, node.0, node.1))).parent in
+            let within =
+            (each (v - 1) (record { parent = 0; out = 0; extra = 0; share = 0; time = 0 }) (omega (arith, node.0, node.1))).parent in
             let is = parent_is v node in
             elim (climbs k (parent_of_node nodes v) (omega (arith, is, above), omega (arith, is, within))) [
               | inl ends ↦ inl (up ∙ ends)

@@ -15,7 +15,8 @@ positions-append : (nodes : List Node) (vs us : List ℕ) → positions_of nodes
 positions-append nodes [] us = refl
 positions-append nodes (v ∷ vs) us =
     let own : List Position = beside_positions (length (children_of nodes v)) ++ own_positions nodes v in
-    ap (λ (z : List Position). own ++ z) (positions-append nodes vs us) ∙ sym (append_assoc own (positions_of nodes vs) (positions_of nodes us))
+    ap (λ (z : List Position). own ++ z) (positions-append nodes vs us)
+    ∙ sym (append_assoc own (positions_of nodes vs) (positions_of nodes us))
 
 module _ (nodes : List Node) where
   flat : (p : ℕ) (f : Forest) → Hangs nodes p f → HasChildren nodes f → positions_of nodes (all_numbers f) ≡ tree_positions nodes f
@@ -27,23 +28,29 @@ module _ (nodes : List Node) where
       ∙ (λ i. (positions-append nodes (all_numbers cs) (v ∷ [])
       ∙ (λ j. flat v cs below below' j ++ append-nil own j)
       ∙ ap (λ (n : ℕ). tree_positions nodes cs ++ (beside_positions n ++ own_positions nodes v)) count
-      ∙ sym (append_assoc (tree_positions nodes cs) (beside_positions (length (roots_of cs))) (own_positions nodes v))) i ++ flat p ts beside beside' i)
+      ∙ sym (append_assoc (tree_positions nodes cs) (beside_positions (length (roots_of cs))) (own_positions nodes v))) i
+      ++ flat p ts beside beside' i)
 
   -- all of them, and the roots side by side
-  pub flat-forest : (f : Forest) (names : List ℕ) → IsForestOf nodes f → names ≡ all_numbers f → positions_of nodes names ++ beside_positions (length (children_of nodes 0)) ≡ forest_positions nodes f
+  pub flat-forest : (f : Forest) (names : List ℕ) → IsForestOf nodes f → names ≡ all_numbers f
+      → positions_of nodes names ++ beside_positions (length (children_of nodes 0)) ≡ forest_positions nodes f
   flat-forest f names h e =
       let count : length (children_of nodes 0) ≡ length (roots_of f) = ap length (sym h.roots) in
       λ i. (ap (positions_of nodes) e ∙ flat 0 f (forest-hangs nodes f h) h.below) i ++ beside_positions (count i)
 
 -- as the code reads them
-pub flat-read : (nodes now : List Node) (names ns : List ℕ) (found : List Position) (f : Forest) → now ≡ nodes → ns ≡ names → IsForestOf nodes f → names ≡ all_numbers f
+pub flat-read : (nodes now : List Node) (names ns : List ℕ) (found : List Position) (f : Forest)
+    → now ≡ nodes → ns ≡ names → IsForestOf nodes f → names ≡ all_numbers f
     → found ≡ positions_of now ns ++ beside_positions (length (children_of now 0)) → found ≡ forest_positions nodes f
 flat-read nodes now names ns found f same ns_are h names_are found_is =
-    found_is ∙ (λ i. positions_of (same i) (ns_are i) ++ beside_positions (length (children_of (same i) 0))) ∙ flat-forest nodes f names h names_are
+    found_is ∙ (λ i. positions_of (same i) (ns_are i) ++ beside_positions (length (children_of (same i) 0)))
+    ∙ flat-forest nodes f names h names_are
 
 -- one node more
-pub position-more : (nodes : List Node) (names : List ℕ) (n v count : ℕ) (before one two three : List Position) → n < length names → get_or names n 0 ≡ v → count ≡ length (children_of nodes v) → before ≡ positions_of nodes (take n names)
-    → one ≡ before ++ beside_positions count → two ≡ one ++ Hold (node_at nodes v).out ∷ [] → three ≡ two ++ at_task (task_of_node (node_at nodes v)) ∷ []
+pub position-more : (nodes : List Node) (names : List ℕ) (n v count : ℕ) (before one two three : List Position)
+    → n < length names → get_or names n 0 ≡ v → count ≡ length (children_of nodes v) → before ≡ positions_of nodes (take n names)
+    → one ≡ before ++ beside_positions count → two ≡ one ++ Hold (node_at nodes v).out ∷ []
+    → three ≡ two ++ at_task (task_of_node (node_at nodes v)) ∷ []
     → three ≡ positions_of nodes (take (n + 1) names)
 position-more nodes names n v count before one two three lt e count_is b h k l =
     let x : List Position = Hold (node_at nodes v).out ∷ [] in

@@ -1,5 +1,6 @@
 -- Nodes by their numbers: sums and items over the numbers 1 to n are those over the list of nodes.
-use Rattle.std.proofs.Common.{◌≡◌, ℕ, suc, ◌+◌, ◌-◌, ◌<◌, Bool, true, false, eqb, List, [], ◌∷◌, length, get_or, map, filter, refl, sym, ap, ◌∙◌, arith}
+use Rattle.std.proofs.Common.{◌≡◌, ℕ, suc, ◌+◌, ◌-◌, ◌<◌, Bool, true, false, eqb, List, []}
+use Rattle.std.proofs.Common.{◌∷◌, length, get_or, map, filter, refl, sym, ap, ◌∙◌, arith}
 use Rattle.std.specs.List.{sum_by, range_with_len}
 use Rattle.std.proofs.lemmas.List.Sums.{sum_by-cons}
 use Rattle.trees.specs.declared.node.Node.{Node}
@@ -18,7 +19,8 @@ module _ (g : ℕ → Node) (d : Node) where
   numbered-rest : (k : ℕ) (n : Node) (ns : List Node) → AreNumbered k (n ∷ ns) → AreNumbered (k + 1) ns
   numbered-rest k n ns h i lt = (let e : k + 1 + i ≡ k + suc i = omega arith in ap g e) ∙ h (suc i) (omega (arith, lt))
 
-  sizes-range : (k : ℕ) (nodes : List Node) → AreNumbered k nodes → sum_by (λ v. node_size (g v)) (range_with_len k (length nodes)) ≡ sum_by node_size nodes
+  sizes-range : (k : ℕ) (nodes : List Node) → AreNumbered k nodes
+      → sum_by (λ v. node_size (g v)) (range_with_len k (length nodes)) ≡ sum_by node_size nodes
   sizes-range k [] h = refl
   sizes-range k (n ∷ ns) h =
       omega (
@@ -29,7 +31,8 @@ module _ (g : ℕ → Node) (d : Node) where
         sizes-range (k + 1) ns (numbered-rest k n ns h),
       )
 
-  items-range : (k : ℕ) (nodes : List Node) → AreNumbered k nodes → map (λ v. item_of_node v (g v)) (range_with_len k (length nodes)) ≡ items_from k nodes
+  items-range : (k : ℕ) (nodes : List Node) → AreNumbered k nodes
+      → map (λ v. item_of_node v (g v)) (range_with_len k (length nodes)) ≡ items_from k nodes
   items-range k [] h = refl
   items-range k (n ∷ ns) h = λ i. item_of_node k (numbered-first k n ns h i) ∷ items-range (k + 1) ns (numbered-rest k n ns h) i
 
@@ -38,14 +41,17 @@ module _ (g : ℕ → Node) (d : Node) where
     abbrev AreBelow : ℕ → List Node → Type 0
     AreBelow k nodes = (i : ℕ) → i < length nodes → q (k + i) ≡ eqb (get_or nodes i d).parent p
 
-    outs-range : (k : ℕ) (nodes : List Node) → AreNumbered k nodes → AreBelow k nodes → sum_by (λ v. (g v).out) (filter q (range_with_len k (length nodes))) ≡ sum_by (out_below p) nodes
+    outs-range : (k : ℕ) (nodes : List Node) → AreNumbered k nodes → AreBelow k nodes
+        → sum_by (λ v. (g v).out) (filter q (range_with_len k (length nodes))) ≡ sum_by (out_below p) nodes
     outs-range k [] h b = refl
     outs-range k (n ∷ ns) h b =
-        let rest = outs-range (k + 1) ns (numbered-rest k n ns h) (λ i lt. (let e : k + 1 + i ≡ k + suc i = omega arith in ap q e) ∙ b (suc i) (omega (arith, lt))) in
+        let rest = outs-range (k + 1) ns (numbered-rest k n ns h)
+        (λ i lt. (let e : k + 1 + i ≡ k + suc i = omega arith in ap q e) ∙ b (suc i) (omega (arith, lt))) in
         let here : q k ≡ eqb n.parent p = (let e : k ≡ k + 0 = omega arith in ap q e) ∙ b 0 (omega arith) in
         go (eqb n.parent p) refl here rest
       where
-        go : (t : Bool) → eqb n.parent p ≡ t → q k ≡ eqb n.parent p → sum_by (λ v. (g v).out) (filter q (range_with_len (k + 1) (length ns))) ≡ sum_by (out_below p) ns
+        go : (t : Bool) → eqb n.parent p ≡ t → q k ≡ eqb n.parent p
+            → sum_by (λ v. (g v).out) (filter q (range_with_len (k + 1) (length ns))) ≡ sum_by (out_below p) ns
             → sum_by (λ v. (g v).out) (filter q (range_with_len k (suc (length ns)))) ≡ sum_by (out_below p) (n ∷ ns)
         go true e here rest = (
             let own : out_below p n ≡ n.out = rw e refl in
@@ -64,8 +70,10 @@ module _ (g : ℕ → Node) (d : Node) where
             )
 
 module _ (nodes : List Node) where
-  numbered-all : (i : ℕ) → i < length nodes → node_at nodes (1 + i) ≡ get_or nodes i (record { parent = 0; out = 0; extra = 0; share = 0; time = 0 })
-  numbered-all i lt = let e : (1 + i) - 1 ≡ i = omega arith in ap (λ (k : ℕ). get_or nodes k (record { parent = 0; out = 0; extra = 0; share = 0; time = 0 })) e
+  numbered-all : (i : ℕ) → i < length nodes
+      → node_at nodes (1 + i) ≡ get_or nodes i (record { parent = 0; out = 0; extra = 0; share = 0; time = 0 })
+  numbered-all i lt = let e : (1 + i) - 1 ≡ i = omega arith in
+      ap (λ (k : ℕ). get_or nodes k (record { parent = 0; out = 0; extra = 0; share = 0; time = 0 })) e
 
   pub sizes-all : sum_by (λ v. node_size (node_at nodes v)) (range_with_len 1 (length nodes)) ≡ sum_by node_size nodes
   sizes-all = sizes-range (node_at nodes) (record { parent = 0; out = 0; extra = 0; share = 0; time = 0 }) 1 nodes numbered-all

@@ -1,6 +1,7 @@
 -- A node from which some number of steps leads above a root leads there within as many steps as there are nodes: the nodes on the
 -- shortest way up are distinct.
-use Rattle.std.proofs.Common.{◌≡◌, ◌≢◌, ℕ, zero, suc, ◌+◌, ◌-◌, ◌<◌, ◌≤◌, ◌⊎◌, inl, inr, Bool, true, false, eqb, List, [], ◌∷◌, length, get_or, refl, sym, ap, subst, ◌∙◌, arith}
+use Rattle.std.proofs.Common.{◌≡◌, ◌≢◌, ℕ, zero, suc, ◌+◌, ◌-◌, ◌<◌, ◌≤◌, ◌⊎◌, inl, inr, Bool, true, false}
+use Rattle.std.proofs.Common.{eqb, List, [], ◌∷◌, length, get_or, refl, sym, ap, subst, ◌∙◌, arith}
 use Rattle.std.specs.List.{All, IsDistinct, list_any}
 use Rattle.std.proofs.lemmas.Bool.{cases_eq, ne_eqb, eqb-true}
 use Rattle.std.proofs.lemmas.Map.Keys.{IsDistinct-from_apart}
@@ -72,7 +73,11 @@ module _ (nodes : List Node) (parents : All (λ node. node.parent ≤ length nod
       let in_way : j < suc k = omega (arith, short, way-length (suc k) v) in
       ne_eqb _ _ (λ same. apart v k least i j lt (omega (arith, in_way))
       (sym (way-at (suc k) v i d (omega (arith, lt, in_way))) ∙ same ∙ way-at (suc k) v j d in_way))) in
-      omega (arith, way-length (suc k) v, length-le_from_distinct_below xs (length nodes + 1) distinct (λ q is. way-within (suc k) v q le is))
+      omega (
+        arith,
+        way-length (suc k) v,
+        length-le_from_distinct_below xs (length nodes + 1) distinct (λ q is. way-within (suc k) v q le is),
+      )
 
   pub steps-lead : (v : ℕ) → IsNode nodes v → (k : ℕ) → ancestor nodes k v ≡ 0 → LeadsToRoot nodes v
   steps-lead v node k ends = elim (least-below v (suc k)) [

@@ -1,5 +1,6 @@
 -- The term of a forest: its positions, its tasks, and its items under the names of the nodes.
-use Rattle.std.proofs.Common.{◌≡◌, ℕ, zero, suc, ◌+◌, ◌-◌, ◌<◌, ◌≤◌, cond, eqb, List, [], ◌∷◌, ◌++◌, length, get_or, map, filter, option_map, Option, Some, None, IsPermutation, refl, sym, subst, ap, ◌∙◌, arith}
+use Rattle.std.proofs.Common.{◌≡◌, ℕ, zero, suc, ◌+◌, ◌-◌, ◌<◌, ◌≤◌, cond, eqb, List, [], ◌∷◌, ◌++◌, length, get_or, map}
+use Rattle.std.proofs.Common.{filter, option_map, Option, Some, None, IsPermutation, refl, sym, subst, ap, ◌∙◌, arith}
 use Rattle.std.specs.List.{range_with_len, All}
 use Rattle.std.proofs.lemmas.List.{append-nil, map-append, length-append, length-map, get_or_append_left, get_or-append-add}
 use Rattle.std.proofs.lemmas.List.Elements.{filter-append}
@@ -10,7 +11,8 @@ use Rattle.mp_system.specs.declared.system.Item.{Item}
 use Rattle.mp_system.specs.declared.system.Task.{Task}
 use Rattle.mp_system.specs.Renaming.{name_in, renamed, is_solid, IsRenamed}
 use Rattle.sp_terms.specs.Term.{Term, hold, series, par, Parts, no_parts, part, count}
-use Rattle.sp_terms.specs.SystemOfTerm.{task_count, task_count_of_parts, tasks_of_term, tasks_of_parts, own_number, items_of_term, items_of_parts, system_of_term}
+use Rattle.sp_terms.specs.SystemOfTerm.{task_count, task_count_of_parts, tasks_of_term, tasks_of_parts}
+use Rattle.sp_terms.specs.SystemOfTerm.{own_number, items_of_term, items_of_parts, system_of_term}
 use Rattle.sp_terms.specs.Postfix.{postfix, all_postfix}
 use Rattle.trees.specs.declared.node.Node.{Node}
 use Rattle.trees.specs.Tree.{IsTree, node_at, task_of_node, item_of_node, items_from, system_of_nodes}
@@ -49,7 +51,9 @@ count-parts nodes (tree v cs ts) = ap suc (count-parts nodes ts)
 all-positions : (nodes : List Node) (f : Forest) → all_postfix (tree_parts nodes f) ≡ tree_positions nodes f
 all-positions nodes no_trees = refl
 all-positions nodes (tree v cs ts) =
-    λ i. ((side-postfix (tree_parts nodes cs) ∙ (λ j. all-positions nodes cs j ++ beside_positions (count-parts nodes cs j))) i ++ own_positions nodes v) ++ all-positions nodes ts i
+    λ i. ((side-postfix (tree_parts nodes cs) ∙ (λ j. all-positions nodes cs j ++ beside_positions (count-parts nodes cs j))) i
+    ++ own_positions nodes v)
+    ++ all-positions nodes ts i
 
 pub term-positions : (nodes : List Node) (f : Forest) → postfix (forest_term nodes f) ≡ forest_positions nodes f
 term-positions nodes f = side-postfix (tree_parts nodes f) ∙ (λ i. all-positions nodes f i ++ beside_positions (count-parts nodes f i))
@@ -66,7 +70,8 @@ side-tasks no_parts = refl
 side-tasks (part t no_parts) = sym (append-nil (tasks_of_term t))
 side-tasks (part t (part u us)) = refl
 
-side-items : (base : ℕ) (to : Option ℕ) (ts : Parts) → filter is_solid (items_of_term base None to (side ts)) ≡ filter is_solid (items_of_parts base None to ts)
+side-items : (base : ℕ) (to : Option ℕ) (ts : Parts)
+    → filter is_solid (items_of_term base None to (side ts)) ≡ filter is_solid (items_of_parts base None to ts)
 side-items base to no_parts = refl
 side-items base to (part t no_parts) = ap (filter is_solid) (sym (append-nil (items_of_term base None to t)))
 side-items base to (part t (part u us)) = refl
@@ -76,7 +81,8 @@ abbrev solid : (ℕ → ℕ) → List Item → List Item
 solid name items = map (renamed name) (filter is_solid items)
 
 solid-append : (name : ℕ → ℕ) (xs ys : List Item) → solid name (xs ++ ys) ≡ solid name xs ++ solid name ys
-solid-append name xs ys = ap (map (renamed name)) (filter-append is_solid xs ys) ∙ map-append (renamed name) (filter is_solid xs) (filter is_solid ys)
+solid-append name xs ys =
+    ap (map (renamed name)) (filter-append is_solid xs ys) ∙ map-append (renamed name) (filter is_solid xs) (filter is_solid ys)
 
 module _ (nodes : List Node) where
   abbrev task_at_node : ℕ → Task
@@ -85,7 +91,14 @@ module _ (nodes : List Node) where
   parts-count : (f : Forest) → task_count_of_parts (tree_parts nodes f) ≡ length (all_numbers f)
   parts-count no_trees = refl
   parts-count (tree v cs ts) =
-      omega (arith, length-append (all_numbers cs ++ v ∷ []) (all_numbers ts), length-append (all_numbers cs) (v ∷ []), side-count (tree_parts nodes cs), parts-count cs, parts-count ts)
+      omega (
+        arith,
+        length-append (all_numbers cs ++ v ∷ []) (all_numbers ts),
+        length-append (all_numbers cs) (v ∷ []),
+        side-count (tree_parts nodes cs),
+        parts-count cs,
+        parts-count ts,
+      )
 
   parts-tasks : (f : Forest) → tasks_of_parts (tree_parts nodes f) ≡ map task_at_node (all_numbers f)
   parts-tasks no_trees = refl
@@ -110,7 +123,8 @@ module _ (nodes : List Node) where
 
   names-right : (name : ℕ → ℕ) (base n : ℕ) (xs ys : List ℕ) → n ≡ length xs → AreNames name base (xs ++ ys) → AreNames name (base + n) ys
   names-right name base n xs ys len h k lt =
-      (let e : base + n + k ≡ base + (length xs + k) = omega (arith, len) in ap name e) ∙ h (length xs + k) (omega (arith, lt, length-append xs ys)) ∙ get_or-append-add xs ys k 0
+      (let e : base + n + k ≡ base + (length xs + k) = omega (arith, len) in ap name e)
+      ∙ h (length xs + k) (omega (arith, lt, length-append xs ys)) ∙ get_or-append-add xs ys k 0
 
   parts-items : (name : ℕ → ℕ) (base : ℕ) (to : Option ℕ) (f : Forest) → AreNames name base (all_numbers f)
       → solid name (items_of_parts base None to (tree_parts nodes f)) ≡ below (option_map name to) f
@@ -121,15 +135,23 @@ module _ (nodes : List Node) where
       let counted : task_count a ≡ length (all_numbers cs) = side-count (tree_parts nodes cs) ∙ parts-count cs in
       let inner = names-left name base (all_numbers cs ++ v ∷ []) (all_numbers ts) h in
       let place : own ≡ base + length (all_numbers cs) = omega (arith, counted) in
-      let last : name own ≡ v = ap name place ∙ inner (length (all_numbers cs)) (omega (arith, length-append (all_numbers cs) (v ∷ []))) ∙ get_or-append_seam (all_numbers cs) v [] 0 in
-      let all : suc (task_count a + 0) ≡ length (all_numbers cs ++ v ∷ []) = omega (arith, counted, length-append (all_numbers cs) (v ∷ [])) in
+      let last : name own ≡ v = ap name place ∙ inner (length (all_numbers cs)) (omega (arith, length-append (all_numbers cs) (v ∷ [])))
+      ∙ get_or-append_seam (all_numbers cs) v [] 0 in
+      let all : suc (task_count a + 0) ≡ length (all_numbers cs ++ v ∷ []) =
+      omega (arith, counted, length-append (all_numbers cs) (v ∷ [])) in
       let block : Item = record { size = (node_at nodes v).out; from = Some own; to = to } in
-      solid-append name (items_of_term base None (Some own) a ++ block ∷ []) (items_of_parts (base + suc (task_count a + 0)) None to (tree_parts nodes ts))
+      solid-append name (items_of_term base None (Some own) a ++ block ∷ [])
+      (items_of_parts (base + suc (task_count a + 0)) None to (tree_parts nodes ts))
       ∙ (λ i. (solid-append name (items_of_term base None (Some own) a) (block ∷ [])
       ∙ (λ j. (ap (map (renamed name)) (side-items base (Some own) (tree_parts nodes cs))
       ∙ parts-items name base (Some own) cs (names-left name base (all_numbers cs) (v ∷ []) inner)
-      ∙ ap (λ (z : ℕ). below (Some z) cs) last) j ++ record { size = (node_at nodes v).out; from = Some (last j); to = option_map name to } ∷ [])) i
-      ++ parts-items name (base + suc (task_count a + 0)) to ts (names-right name base (suc (task_count a + 0)) (all_numbers cs ++ v ∷ []) (all_numbers ts) all h) i)
+      ∙ ap (λ (z : ℕ). below (Some z) cs) last) j ++ record {
+        size = (node_at nodes v).out;
+        from = Some (last j);
+        to = option_map name to;
+      } ∷ [])) i
+      ++ parts-items name (base + suc (task_count a + 0)) to ts
+      (names-right name base (suc (task_count a + 0)) (all_numbers cs ++ v ∷ []) (all_numbers ts) all h) i)
 
   -- the one that takes the block of a child of p
   abbrev taker : ℕ → Option ℕ
@@ -164,22 +186,29 @@ map-same f g [] h = refl
 map-same f g (x ∷ xs) h = λ i. h x i ∷ map-same f g xs h i
 
 -- the system of the term is the tree's, under the names of the nodes
-pub term-renamed : (nodes : List Node) (f : Forest) → IsTree nodes → IsForestOf nodes f → IsRenamed (all_numbers f) (system_of_term (forest_term nodes f)) (system_of_nodes nodes)
+pub term-renamed : (nodes : List Node) (f : Forest) → IsTree nodes → IsForestOf nodes f
+    → IsRenamed (all_numbers f) (system_of_term (forest_term nodes f)) (system_of_nodes nodes)
 term-renamed nodes f is h =
     let names = all_numbers f in
     let len : length (map task_of_node nodes) ≡ length nodes = length-map nodes task_of_node in
-    let order : AreNames nodes (name_in names) 1 names = (λ k lt. rw (ne_eqb (1 + k) 0 (omega arith)) (let e : (1 + k) - 1 ≡ k = omega arith in ap (λ (n : ℕ). get_or names n 0) e)) in
+    let order : AreNames nodes (name_in names) 1 names =
+    (λ k lt. rw (ne_eqb (1 + k) 0 (omega arith)) (let e : (1 + k) - 1 ≡ k = omega arith in ap (λ (n : ℕ). get_or names n 0) e)) in
     let items : solid (name_in names) (items_of_term 1 None None (forest_term nodes f)) ≡ map (item_of_number nodes) names =
-    ap (map (renamed (name_in names))) (side-items 1 None (tree_parts nodes f)) ∙ parts-items nodes (name_in names) 1 None f order ∙ below-items nodes 0 f (forest-hangs nodes f h) in
+    ap (map (renamed (name_in names))) (side-items 1 None (tree_parts nodes f))
+    ∙ parts-items nodes (name_in names) 1 None f order ∙ below-items nodes 0 f (forest-hangs nodes f h) in
     let all : IsPermutation (map (item_of_number nodes) names) (items_from 1 nodes) =
-    subst (λ (z : List Item). IsPermutation (map (item_of_number nodes) names) z) (items-all nodes) (IsPermutation-map (item_of_number nodes) names (range_with_len 1 (length nodes)) (forest-each nodes is f h)) in
+    subst (λ (z : List Item). IsPermutation (map (item_of_number nodes) names) z) (items-all nodes)
+    (IsPermutation-map (item_of_number nodes) names (range_with_len 1 (length nodes)) (forest-each nodes is f h)) in
     record {
       once = λ v task. once nodes is f h v (task.0, omega (arith, task.1, len));
       within = within;
-      tasks = side-tasks (tree_parts nodes f) ∙ parts-tasks nodes f ∙ map-same (task_at_node nodes) _ names (λ v. sym (get_or-map_default task_of_node nodes (v - 1) (record { parent = 0; out = 0; extra = 0; share = 0; time = 0 })));
+      tasks = side-tasks (tree_parts nodes f) ∙ parts-tasks nodes f
+          ∙ map-same (task_at_node nodes) _ names
+          (λ v. sym (get_or-map_default task_of_node nodes (v - 1) (record { parent = 0; out = 0; extra = 0; share = 0; time = 0 })));
       items = subst (λ (z : List Item). IsPermutation z (filter is_solid (items_from 1 nodes))) (sym items)
           (subst (λ (z : List Item). IsPermutation (map (item_of_number nodes) names) z) (sym (all-solid 1 nodes)) all);
     }
   where
     within : All (λ v. (1 ≤ v) × (v ≤ length (map task_of_node nodes))) (all_numbers f)
-    within = numbers-are nodes (λ v. (1 ≤ v) × (v ≤ length (map task_of_node nodes))) 0 f (λ v node. (node.0, omega (arith, node.1, length-map nodes task_of_node))) (forest-hangs nodes f h)
+    within = numbers-are nodes (λ v. (1 ≤ v) × (v ≤ length (map task_of_node nodes))) 0 f
+        (λ v node. (node.0, omega (arith, node.1, length-map nodes task_of_node))) (forest-hangs nodes f h)

@@ -68,12 +68,18 @@ position-within version (at.Task extra share time) within small =
     let rest = All-tail IsSmall extra (share ∷ time ∷ []) small in
     omega (arith, task-within version extra share time within.0 (All-head IsSmall share (time ∷ []) rest) within.2)
 position-within version (Par parts) within small =
-    omega (arith, first-token (codes "par") (decimal parts) [], last-token (decimal parts), small-decimal parts (All-head IsSmall parts [] small))
+    omega (
+      arith,
+      first-token (codes "par") (decimal parts) [],
+      last-token (decimal parts),
+      small-decimal parts (All-head IsSmall parts [] small),
+    )
 
 -- ---- all lines
 
 -- what holds of the element wherever a list is split
-each-split : {X : Type 0} (P : X → Type 0) (xs : List X) → ((first : List X) (x : X) (rest : List X) → xs ≡ first ++ x ∷ rest → P x) → All P xs
+each-split : {X : Type 0} (P : X → Type 0) (xs : List X)
+    → ((first : List X) (x : X) (rest : List X) → xs ≡ first ++ x ∷ rest → P x) → All P xs
 each-split P [] at = All-nil P
 each-split P (x ∷ xs) at =
     All-cons P x xs (at [] x xs refl) (each-split P xs (λ first y rest e. at (x ∷ first) y rest (ap (λ zs. x ∷ zs) e)))
@@ -99,7 +105,8 @@ positions-within version (p ∷ ps) widths =
     )
 
 -- for a million tasks the bounds above add up to 129000060, and so leave room for more
-pub printed-room : (version : Version) (ps : List Position) → IsTerms ps → length (workflow_text_in version ps) + 50 * most_tasks ≤ most_bytes
+pub printed-room : (version : Version) (ps : List Position) → IsTerms ps
+    → length (workflow_text_in version ps) + 50 * most_tasks ≤ most_bytes
 printed-room version ps terms =
     let count = sum_by added_tasks ps in
     let lines = map (position_line version) ps in

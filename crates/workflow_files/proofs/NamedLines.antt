@@ -1,5 +1,6 @@
 -- The comments with the names of tasks, line by line.
-use Rattle.std.proofs.Common.{◌≡◌, ◌∙◌, ℕ, ◌+◌, ◌*◌, ◌<◌, ◌≤◌, ◌^◌, true, List, [], ◌∷◌, ◌++◌, length, map, take, get_or, refl, sym, ap, arith, length-append}
+use Rattle.std.proofs.Common.{◌≡◌, ◌∙◌, ℕ, ◌+◌, ◌*◌, ◌<◌, ◌≤◌, ◌^◌, true, List, [], ◌∷◌, ◌++◌}
+use Rattle.std.proofs.Common.{length, map, take, get_or, refl, sym, ap, arith, length-append}
 use Rattle.std.specs.Prelude.{codes}
 use Rattle.std.specs.Bool.{IsTrue}
 use Rattle.std.specs.Fmt.{decimal}
@@ -27,10 +28,12 @@ lines_before names i = map name_line (take i (enumerate_from 1 names))
 pub lines_of_all : (names : List ℕ) → lines_before names (length names) ≡ name_lines names
 lines_of_all names = ap (map name_line) (take_all (length names) (enumerate_from 1 names) (omega (arith, length-enumerate_from 1 names)))
 
-one_more : (names : List ℕ) (i : ℕ) → i < length names → lines_before names (i + 1) ≡ lines_before names i ++ name_line (i + 1, get_or names i 0) ∷ []
+one_more : (names : List ℕ) (i : ℕ) → i < length names
+    → lines_before names (i + 1) ≡ lines_before names i ++ name_line (i + 1, get_or names i 0) ∷ []
 one_more names i h =
     let all = enumerate_from 1 names in
-    let here : get_or all i (0, 0) ≡ (i + 1, get_or names i 0) = get_or-enumerate_from 1 names i (0, 0) h ∙ ap (λ (n : ℕ). (n, get_or names i 0)) (omega arith) in
+    let here : get_or all i (0, 0) ≡ (i + 1, get_or names i 0) =
+    get_or-enumerate_from 1 names i (0, 0) h ∙ ap (λ (n : ℕ). (n, get_or names i 0)) (omega arith) in
     ap (map name_line) (take_more all i (0, 0) (omega (arith, h, length-enumerate_from 1 names)))
     ∙ map-append name_line (take i all) (get_or all i (0, 0) ∷ [])
     ∙ ap (λ (p : ℕ × ℕ). lines_before names i ++ name_line p ∷ []) here
@@ -55,14 +58,17 @@ pub names-small : (names : List ℕ) → All (λ (v : ℕ). v ≤ most_tasks) na
 names-small names within = λ i d lt. let h : get_or names i d ≤ most_tasks = within i d lt in omega (arith, h)
 
 -- each begins a comment
-pub are-comments : ((n : ℕ) → n < 2 ^ 64 → IsTrue (is_token (decimal n))) → (k : ℕ) (names : List ℕ) → k + length names < 2 ^ 64 → All IsSmall names
+pub are-comments : ((n : ℕ) → n < 2 ^ 64 → IsTrue (is_token (decimal n)))
+    → (k : ℕ) (names : List ℕ) → k + length names < 2 ^ 64 → All IsSmall names
     → list_all is_comment_line (map name_line (enumerate_from k names)) ≡ true
 are-comments token k [] few small = refl
 are-comments token k (v ∷ names) few small =
-    let here : is_comment_line (codes "#" ∷ decimal k ∷ decimal v ∷ []) ≡ true = rw (token k (omega arith), token v (All-head IsSmall v names small)) refl in
+    let here : is_comment_line (codes "#" ∷ decimal k ∷ decimal v ∷ []) ≡ true =
+    rw (token k (omega arith), token v (All-head IsSmall v names small)) refl in
     and_from _ _ here (are-comments token (k + 1) names (omega arith) (All-tail IsSmall v names small))
 
-pub named-comments : ((n : ℕ) → n < 2 ^ 64 → IsTrue (is_token (decimal n))) → (names : List ℕ) → length names ≤ most_tasks → All IsSmall names
+pub named-comments : ((n : ℕ) → n < 2 ^ 64 → IsTrue (is_token (decimal n)))
+    → (names : List ℕ) → length names ≤ most_tasks → All IsSmall names
     → IsTrue (list_all is_comment_line (name_lines names))
 named-comments token names few small = are-comments token 1 names (omega (arith, few)) small
 
@@ -85,10 +91,12 @@ name-short k v low high =
       small-decimal v high,
     )
 
-names-short : (k : ℕ) (names : List ℕ) → k + length names < 2 ^ 64 → All IsSmall names → All IsShort (map name_line (enumerate_from k names))
+names-short : (k : ℕ) (names : List ℕ) → k + length names < 2 ^ 64
+    → All IsSmall names → All IsShort (map name_line (enumerate_from k names))
 names-short k [] few small = All-nil IsShort
 names-short k (v ∷ names) few small =
-    All-cons IsShort (name_line (k, v)) (map name_line (enumerate_from (k + 1) names)) (name-short k v (omega arith) (All-head IsSmall v names small))
+    All-cons IsShort (name_line (k, v)) (map name_line (enumerate_from (k + 1) names))
+    (name-short k v (omega arith) (All-head IsSmall v names small))
     (names-short (k + 1) names (omega arith) (All-tail IsSmall v names small))
 
 pub named-length : (positions : List Position) (names : List ℕ) → length names ≤ most_tasks → All IsSmall names

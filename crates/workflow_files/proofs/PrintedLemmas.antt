@@ -1,5 +1,6 @@
 -- A printed workflow is read as it was.
-use Rattle.std.proofs.Common.{◌≡◌, ℕ, ◌+◌, ◌≤◌, Bool, true, false, cond, List, [], ◌∷◌, ◌++◌, length, map, refl, sym, ap, subst, ◌∙◌, arith, Some, None, append_assoc, append-nil}
+use Rattle.std.proofs.Common.{◌≡◌, ℕ, ◌+◌, ◌≤◌, Bool, true, false, cond, List, [], ◌∷◌, ◌++◌, length, map}
+use Rattle.std.proofs.Common.{refl, sym, ap, subst, ◌∙◌, arith, Some, None, append_assoc, append-nil}
 use Rattle.std.specs.Bool.{IsTrue}
 use Rattle.std.specs.Option.{is_some}
 use Rattle.std.specs.List.{sum_by, list_all, list_any}
@@ -25,8 +26,11 @@ use Rattle.sp_terms.specs.Term.{Term, count}
 use Rattle.sp_terms.specs.Builder.{is_short, limit_of, is_overshared}
 use Rattle.sp_terms.specs.Postfix.{push_all}
 use Rattle.sp_terms.specs.Values.{stack_from, stack_of, added_size, added_tasks, IsTerms, IsWithinLimits, AllAllowed}
-use Rattle.workflow_files.specs.WorkflowFile.{workflow_format, workflow_line_tests, workflow_count_tests, workflow_count, word_spelled, position_from, position_stated, stated_or, position_of, is_position, is_too_many, begins_end, is_workflow_complete, positions_stated, ReadsWorkflow}
-use Rattle.workflow_files.specs.WorkflowText.{position_word, position_numbers, position_line, workflow_lines, is_sharing, workflow_version_for, workflow_text, workflow_text_2}
+use Rattle.workflow_files.specs.WorkflowFile.{workflow_format, workflow_line_tests, workflow_count_tests, workflow_count, word_spelled}
+use Rattle.workflow_files.specs.WorkflowFile.{position_from, position_stated, stated_or, position_of, is_position, is_too_many}
+use Rattle.workflow_files.specs.WorkflowFile.{begins_end, is_workflow_complete, positions_stated, ReadsWorkflow}
+use Rattle.workflow_files.specs.WorkflowText.{position_word, position_numbers, position_line, workflow_lines, is_sharing}
+use Rattle.workflow_files.specs.WorkflowText.{workflow_version_for, workflow_text, workflow_text_2}
 use Rattle.workflow_files.proofs.ReadLemmas.{stated_parts}
 use Rattle.sp_terms.proofs.Stacks.{onto, Pushed, held, ran, beside}
 use Rattle.sp_terms.proofs.Standing.{Standing, standing, not_over, small_share, onto-length, stack_few}
@@ -46,15 +50,20 @@ record IsPrintable (version : Version) (p : Position) : Type 0 where
 position_row : Version → ℕ → Position → Row
 position_row version number p = record { number = number; tokens = position_line version p }
 
-from_numbers : (version : Version) (p : Position) → (version ≡ One → is_sharing p ≡ false) → position_from version (word_spelled (position_word p)) (Some (position_numbers version p)) ≡ Some p
+from_numbers : (version : Version) (p : Position) → (version ≡ One → is_sharing p ≡ false)
+    → position_from version (word_spelled (position_word p)) (Some (position_numbers version p)) ≡ Some p
 from_numbers version (Hold size) unshared = refl
-from_numbers One (at.Task extra share time) unshared = ap (λ (n : ℕ). Some (at.Task extra n time)) (sym (eqb-true share 0 (not-false _ (unshared refl))))
+from_numbers One (at.Task extra share time) unshared =
+    ap (λ (n : ℕ). Some (at.Task extra n time)) (sym (eqb-true share 0 (not-false _ (unshared refl))))
 from_numbers Two (at.Task extra share time) unshared = refl
 from_numbers version (Par parts) unshared = refl
 
-position_is : AreLaws → (version : Version) (number : ℕ) (p : Position) → IsPrintable version p → position_stated version (position_row version number p) ≡ Some p
+position_is : AreLaws → (version : Version) (number : ℕ) (p : Position)
+    → IsPrintable version p → position_stated version (position_row version number p) ≡ Some p
 unfolding position_row
-position_is laws version number p fits = ap (position_from version (word_spelled (position_word p))) (laws.values (position_numbers version p) fits.numbers) ∙ from_numbers version p fits.unshared
+position_is laws version number p fits =
+    ap (position_from version (word_spelled (position_word p))) (laws.values (position_numbers version p) fits.numbers)
+    ∙ from_numbers version p fits.unshared
 
 is_worded : (p : Position) → is_some (word_spelled (position_word p)) ≡ true
 is_worded (Hold size) = refl
@@ -67,9 +76,11 @@ not_end version number (Hold size) = refl
 not_end version number (at.Task extra share time) = refl
 not_end version number (Par parts) = refl
 
-is_line : AreLaws → (version : Version) (p : Position) → AreSmall (position_numbers version p) → is_counted Commented (position_line version p) ≡ true
+is_line : AreLaws → (version : Version) (p : Position) → AreSmall (position_numbers version p)
+    → is_counted Commented (position_line version p) ≡ true
 is_line laws version (Hold size) small = and_from _ _ (all_tokens laws (position_numbers version (Hold size)) small) refl
-is_line laws version (at.Task extra share time) small = and_from _ _ (all_tokens laws (position_numbers version (at.Task extra share time)) small) refl
+is_line laws version (at.Task extra share time) small =
+    and_from _ _ (all_tokens laws (position_numbers version (at.Task extra share time)) small) refl
 is_line laws version (Par parts) small = and_from _ _ (all_tokens laws (position_numbers version (Par parts)) small) refl
 
 -- ---- a position within a list that denotes a term
@@ -86,7 +97,8 @@ module _ (ps first : List Position) (p : Position) (terms : IsTerms ps) (stands 
   is_fit : IsFit (sum_by added_tasks ps) first p
   is_fit = go p stands.stack stands.after stands.step stands.before stands.allowed stands.within stands.total stands.tasks
     where
-      go : (p : Position) (stack after : List Term) → Pushed p stack after → push_all first [] ≡ Some stack → AllAllowed after → IsWithinLimits p → sum_by added_size first + added_size p ≤ most_total
+      go : (p : Position) (stack after : List Term) → Pushed p stack after → push_all first [] ≡ Some stack
+          → AllAllowed after → IsWithinLimits p → sum_by added_size first + added_size p ≤ most_total
           → sum_by added_tasks first + added_tasks p ≤ sum_by added_tasks ps → IsFit (sum_by added_tasks ps) first p
       go p stack after (held size st) before allowed within total tasks = let few = stands.few in grind arith
       go p stack after (ran v a b st) before allowed within total tasks =
@@ -98,13 +110,19 @@ module _ (ps first : List Position) (p : Position) (terms : IsTerms ps) (stands 
   pub small_numbers : (version : Version) → AreSmall (position_numbers version p)
   small_numbers version = go version p stands.stack stands.after stands.step stands.before stands.allowed stands.within stands.total
     where
-      go : (version : Version) (p : Position) (stack after : List Term) → Pushed p stack after → push_all first [] ≡ Some stack → AllAllowed after → IsWithinLimits p → sum_by added_size first + added_size p ≤ most_total → AreSmall (position_numbers version p)
-      go version p stack after (held size st) before allowed within total = All-cons IsSmall size [] (omega (arith, within)) (All-nil IsSmall)
-      go One p stack after (ran v a b st) before allowed within total = All-cons IsSmall v.extra (v.time ∷ []) (omega (arith, within.0)) (All-cons IsSmall v.time [] (omega (arith, within.2)) (All-nil IsSmall))
+      go : (version : Version) (p : Position) (stack after : List Term) → Pushed p stack after
+          → push_all first [] ≡ Some stack → AllAllowed after → IsWithinLimits p
+          → sum_by added_size first + added_size p ≤ most_total → AreSmall (position_numbers version p)
+      go version p stack after (held size st) before allowed within total =
+          All-cons IsSmall size [] (omega (arith, within)) (All-nil IsSmall)
+      go One p stack after (ran v a b st) before allowed within total = All-cons IsSmall v.extra (v.time ∷ [])
+          (omega (arith, within.0)) (All-cons IsSmall v.time [] (omega (arith, within.2)) (All-nil IsSmall))
       go Two p stack after (ran v a b st) before allowed within total =
-          All-cons IsSmall v.extra (v.share ∷ v.time ∷ []) (omega (arith, within.0)) (All-cons IsSmall v.share (v.time ∷ []) (small_share first v a b st before allowed.0 (omega (arith, total)))
+          All-cons IsSmall v.extra (v.share ∷ v.time ∷ []) (omega (arith, within.0))
+          (All-cons IsSmall v.share (v.time ∷ []) (small_share first v a b st before allowed.0 (omega (arith, total)))
           (All-cons IsSmall v.time [] (omega (arith, within.2)) (All-nil IsSmall)))
-      go version p stack after (beside ts st e) before allowed within total = All-cons IsSmall (count ts) [] (omega (arith, stands.few, stack_few first (onto ts st) before, onto-length ts st)) (All-nil IsSmall)
+      go version p stack after (beside ts st e) before allowed within total = All-cons IsSmall (count ts) []
+          (omega (arith, stands.few, stack_few first (onto ts st) before, onto-length ts st)) (All-nil IsSmall)
 
 -- ---- the first two lines
 
@@ -133,7 +151,8 @@ abbrev AllPass : List Row → List Row → Type 0
 AllPass before [] = Unit {0}
 AllPass before (row ∷ rows) = Passes before row × AllPass (before ++ row ∷ []) rows
 
-all_passed : (before rows : List Row) → AllPass before rows → (first rest : List Row) (row : Row) → rows ≡ first ++ row ∷ rest → Passes (before ++ first) row
+all_passed : (before rows : List Row) → AllPass before rows
+    → (first rest : List Row) (row : Row) → rows ≡ first ++ row ∷ rest → Passes (before ++ first) row
 all_passed before [] pass [] rest row e = absurd cc
 all_passed before [] pass (f ∷ first) rest row e = absurd cc
 all_passed before (r ∷ rows) pass [] rest row e =
@@ -142,9 +161,11 @@ all_passed before (r ∷ rows) pass [] rest row e =
 all_passed before (r ∷ rows) pass (f ∷ first) rest row e =
     let same : r ≡ f = cc in
     let tail : rows ≡ first ++ row ∷ rest = cc in
-    subst (λ (b : List Row). Passes b row) (append_assoc before (r ∷ []) first ∙ ap (λ (x : Row). before ++ x ∷ first) same) (all_passed (before ++ r ∷ []) rows pass.1 first rest row tail)
+    subst (λ (b : List Row). Passes b row) (append_assoc before (r ∷ []) first ∙ ap (λ (x : Row). before ++ x ∷ first) same)
+    (all_passed (before ++ r ∷ []) rows pass.1 first rest row tail)
 
-module _ (laws : AreLaws) (version : Version) (ps : List Position) (terms : IsTerms ps) (unshared : version ≡ One → list_any is_sharing ps ≡ false) where
+module _ (laws : AreLaws) (version : Version) (ps : List Position)
+    (terms : IsTerms ps) (unshared : version ≡ One → list_any is_sharing ps ≡ false) where
   abbrev header : Row
   header = header_row (codes "workflow") version
 
@@ -172,20 +193,43 @@ module _ (laws : AreLaws) (version : Version) (ps : List Position) (terms : IsTe
     pass : AllPass (header ∷ counted ∷ before) (numbered_from number (map (position_line version) rest ++ end_line ∷ []))
     lines : list_all (is_counted Commented) (map (position_line version) rest ++ end_line ∷ []) ≡ true
 
-  last_passes : (before : List Row) (number : ℕ) → map (position_of version) before ≡ ps → list_any begins_end before ≡ false → Passes (header ∷ counted ∷ before) (record { number = number; tokens = end_line })
+  last_passes : (before : List Row) (number : ℕ) → map (position_of version) before ≡ ps
+      → list_any begins_end before ≡ false → Passes (header ∷ counted ∷ before) (record { number = number; tokens = end_line })
   unfolding Passes
   last_passes before number state unended =
-      rw (unended, header_is (codes "workflow") version refl, counted_is, state, eq-eqb _ _ (ap length (ap stack_from terms.is)), eq-eqb (sum_by added_tasks ps) _ refl) refl
+      rw (
+        unended,
+        header_is (codes "workflow") version refl,
+        counted_is,
+        state,
+        eq-eqb _ _ (ap length (ap stack_from terms.is)),
+        eq-eqb (sum_by added_tasks ps) _ refl,
+      ) refl
 
-  position_passes : (before : List Row) (number : ℕ) (first : List Position) (p : Position) (rest : List Position) → ps ≡ first ++ p ∷ rest → map (position_of version) before ≡ first → list_any begins_end before ≡ false
+  position_passes : (before : List Row) (number : ℕ) (first : List Position) (p : Position) (rest : List Position)
+      → ps ≡ first ++ p ∷ rest → map (position_of version) before ≡ first → list_any begins_end before ≡ false
       → Passes (header ∷ counted ∷ before) (position_row version number p)
   unfolding Passes position_row
   position_passes before number first p rest e state unended =
       let fit = is_fit ps first p terms (standing ps first p rest terms e) in
       let is = position_is laws version number p (printable first p rest e) in
-      rw (unended, not_end version number p, header_is (codes "workflow") version refl, counted_is, state, is, fit.asked, fit.high, fit.few, fit.limit, fit.share, is_worded p) refl
+      rw (
+        unended,
+        not_end version number p,
+        header_is (codes "workflow") version refl,
+        counted_is,
+        state,
+        is,
+        fit.asked,
+        fit.high,
+        fit.few,
+        fit.limit,
+        fit.share,
+        is_worded p,
+      ) refl
 
-  printed : (before : List Row) (number : ℕ) (first rest : List Position) → ps ≡ first ++ rest → map (position_of version) before ≡ first → list_any begins_end before ≡ false → ArePrinted before number rest
+  printed : (before : List Row) (number : ℕ) (first rest : List Position) → ps ≡ first ++ rest
+      → map (position_of version) before ≡ first → list_any begins_end before ≡ false → ArePrinted before number rest
   unfolding position_row
   printed before number first [] e state unended = record {
     rows = [];
@@ -201,7 +245,8 @@ module _ (laws : AreLaws) (version : Version) (ps : List Position) (terms : IsTe
       let fits = printable first p rest e in
       let is : position_of version row ≡ p = ap stated_or (position_is laws version number p fits) in
       let more = printed (before ++ row ∷ []) (number + 1) (first ++ p ∷ []) rest (e ∙ sym (append_assoc first (p ∷ []) rest))
-      (map_push (position_of version) before row ∙ (λ i. state i ++ is i ∷ [])) (list_any-append begins_end before (row ∷ []) ∙ rw (unended, not_end version number p) refl) in
+      (map_push (position_of version) before row ∙ (λ i. state i ++ is i ∷ []))
+      (list_any-append begins_end before (row ∷ []) ∙ rw (unended, not_end version number p) refl) in
       record {
         rows = row ∷ more.rows;
         last = more.last;
@@ -214,7 +259,9 @@ module _ (laws : AreLaws) (version : Version) (ps : List Position) (terms : IsTe
 
   -- a text that has just the lines that are printed is read as the positions
   pub printed-reads : (text : List ℕ)
-      → (list_all (is_counted Commented) (workflow_lines version ps) ≡ true → rows_of_bytes Commented text ≡ numbered_from 1 (workflow_lines version ps)) → ReadsWorkflow text ps
+      → (list_all (is_counted Commented) (workflow_lines version ps) ≡ true
+      → rows_of_bytes Commented text ≡ numbered_from 1 (workflow_lines version ps))
+      → ReadsWorkflow text ps
   unfolding count_row Passes
   printed-reads text has =
       let body = printed [] 3 [] ps refl refl refl in
@@ -222,15 +269,21 @@ module _ (laws : AreLaws) (version : Version) (ps : List Position) (terms : IsTe
       let count_counts : is_counted Commented (section_line (codes "tasks") (sum_by added_tasks ps)) ≡ true =
       section_counted laws (codes "tasks") (sum_by added_tasks ps) refl refl (omega (arith, terms.few_tasks)) in
       let read : rows_of_bytes Commented text ≡ all =
-      has (and_from _ _ (header_counts version) (and_from _ _ count_counts body.lines)) ∙ ap (λ (rs : List Row). header ∷ counted ∷ rs) body.rows_are in
-      let pass : AllPass [] all = (header_passes (codes "workflow") kinds.Header version refl, (count_passes laws (sum_by added_tasks ps) terms.few_tasks, subst (AllPass (header ∷ counted ∷ [])) body.rows_are body.pass)) in
-      let complete : is_workflow_complete all ≡ true = list_any-append begins_end body.rows (body.last ∷ []) ∙ rw body.ended (or-true (list_any begins_end body.rows)) in
+      has (and_from _ _ (header_counts version) (and_from _ _ count_counts body.lines))
+      ∙ ap (λ (rs : List Row). header ∷ counted ∷ rs) body.rows_are in
+      let pass : AllPass [] all = (
+        header_passes (codes "workflow") kinds.Header version refl,
+        (count_passes laws (sum_by added_tasks ps) terms.few_tasks, subst (AllPass (header ∷ counted ∷ [])) body.rows_are body.pass),
+      ) in
+      let complete : is_workflow_complete all ≡ true =
+      list_any-append begins_end body.rows (body.last ∷ []) ∙ rw body.ended (or-true (list_any begins_end body.rows)) in
       record {
         form = record {
           lines = subst (ArePassed workflow_format) (sym read) (λ before after row. all_passed [] all pass before after row);
           end = rw (ap is_workflow_complete read ∙ complete) refl;
         };
-        stated = sym (ap positions_stated read ∙ stated_parts header counted body.last body.rows ∙ ap (λ (v : Version). map (position_of v) body.rows) (header_is (codes "workflow") version refl) ∙ body.state);
+        stated = sym (ap positions_stated read ∙ stated_parts header counted body.last body.rows
+            ∙ ap (λ (v : Version). map (position_of v) body.rows) (header_is (codes "workflow") version refl) ∙ body.state);
       }
 
 -- ---- both versions
@@ -243,10 +296,12 @@ one_unshared false is = refl
 pub workflow_text-reads : AreLaws → (ps : List Position) → IsTerms ps → ReadsWorkflow (workflow_text ps) ps
 workflow_text-reads laws ps terms =
     let version = workflow_version_for ps in
-    printed-reads laws version ps terms (one_unshared (list_any is_sharing ps)) (workflow_text ps) (laws.rows Commented (workflow_lines version ps))
+    printed-reads laws version ps terms (one_unshared (list_any is_sharing ps))
+    (workflow_text ps) (laws.rows Commented (workflow_lines version ps))
 
 pub workflow_text_2-reads : AreLaws → (ps : List Position) → IsTerms ps → ReadsWorkflow (workflow_text_2 ps) ps
-workflow_text_2-reads laws ps terms = printed-reads laws Two ps terms (λ never. absurd cc) (workflow_text_2 ps) (laws.rows Commented (workflow_lines Two ps))
+workflow_text_2-reads laws ps terms =
+    printed-reads laws Two ps terms (λ never. absurd cc) (workflow_text_2 ps) (laws.rows Commented (workflow_lines Two ps))
 
 -- ---- with comments after the last line
 
@@ -259,4 +314,5 @@ pub commented-reads : AreLaws
 commented-reads laws parts rows ps comments terms are =
     let version = workflow_version_for ps in
     printed-reads laws version ps terms (one_unshared (list_any is_sharing ps)) (workflow_text ps ++ text_of_lines comments)
-    (λ counted. ap (rows_of_bytes Commented) (sym (parts (workflow_lines version ps) comments)) ∙ rows (workflow_lines version ps) comments counted are)
+    (λ counted. ap (rows_of_bytes Commented) (sym (parts (workflow_lines version ps) comments))
+    ∙ rows (workflow_lines version ps) comments counted are)

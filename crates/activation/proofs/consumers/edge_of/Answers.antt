@@ -20,7 +20,10 @@ pub returns-clause-within : goal.returns-clause-within
 returns-clause-within c =
     let from = c.requires.producer c.in_ok-from.from (named _ c.in_ok-from.from c.in_ok-from.was) in
     let to = c.requires.consumer c.in_ok-to.to (named _ c.in_ok-to.to c.in_ok-to.was) in
-    record { from = c.requires.places.within (c.in_ok-from.from - 1) (omega (arith, from)); to = c.requires.places.within (c.in_ok-to.to - 1) (omega (arith, to)) }
+    record {
+      from = c.requires.places.within (c.in_ok-from.from - 1) (omega (arith, from));
+      to = c.requires.places.within (c.in_ok-to.to - 1) (omega (arith, to));
+    }
 
 pub returns-clause-leads : goal.returns-clause-leads
 returns-clause-leads c = λ t u it iu.
@@ -28,4 +31,11 @@ returns-clause-leads c = λ t u it iu.
     let to = c.in_ok-to.to in
     let produces : IsNumber from _ = c.requires.producer from (named _ from c.in_ok-from.was) in
     let consumes : IsNumber to _ = c.requires.consumer to (named _ to c.in_ok-to.was) in
-    rw (number_at c.args.places.now from produces.0, number_at c.args.places.now to consumes.0, same_place c.requires.places from t produces it, same_place c.requires.places to u consumes iu, c.in_ok-from.was, c.in_ok-to.was)
+    rw (
+      number_at c.args.places.now from produces.0,
+      number_at c.args.places.now to consumes.0,
+      same_place c.requires.places from t produces it,
+      same_place c.requires.places to u consumes iu,
+      c.in_ok-from.was,
+      c.in_ok-to.was,
+    )

@@ -21,10 +21,13 @@ loop-item-preserved c =
           rw (w.edges-is, w.push_reserved.ensures.items) (record {
             room = omega (arith, inv.room, w.push_reserved.ensures.capacity);
             few = omega (arith, inv.few, length_push c.loop-item.edges.items w.in-Some.edge);
-            within = All-push (IsEdgeWithin (length c.args.system.now.tasks)) c.loop-item.edges.items w.in-Some.edge inv.within (rw c.requires.long at w.in-Some.ensures.within);
+            within = All-push (IsEdgeWithin (length c.args.system.now.tasks)) c.loop-item.edges.items w.in-Some.edge inv.within
+                (rw c.requires.long at w.in-Some.ensures.within);
             counts = λ t u it iu.
-                let pushed = sum_by_push (λ e. cond (joins (task_entry places t) (task_entry places u) e) 1 0) c.loop-item.edges.items w.in-Some.edge in
-                let here = ap {B = ℕ} (λ b. cond b 1 0) (w.in-Some.ensures.leads t u (rw (← c.requires.long) at it) (rw (← c.requires.long) at iu)) in
+                let pushed = sum_by_push (λ e. cond (joins (task_entry places t) (task_entry places u) e) 1 0)
+                c.loop-item.edges.items w.in-Some.edge in
+                let here = ap {B = ℕ} (λ b. cond b 1 0)
+                (w.in-Some.ensures.leads t u (rw (← c.requires.long) at it) (rw (← c.requires.long) at iu)) in
                 omega (arith, pushed, here, more t u, inv.counts t u it iu);
           })
       | in_default w ↦
@@ -33,11 +36,14 @@ loop-item-preserved c =
             few = omega (arith, inv.few);
             within = inv.within;
             counts = λ t u it iu.
-                let here = ap {B = ℕ} (λ b. cond b 1 0) (w.in_default.ensures.leads t u (rw (← c.requires.long) at it) (rw (← c.requires.long) at iu)) in
+                let here = ap {B = ℕ} (λ b. cond b 1 0)
+                (w.in_default.ensures.leads t u (rw (← c.requires.long) at it) (rw (← c.requires.long) at iu)) in
                 omega (arith, here, more t u, inv.counts t u it iu);
           })
     ]
 
 pub returns-clause-counts : goal.returns-clause-counts
 returns-clause-counts c = λ t u it iu.
-    c.loop-item.invariant.counts t u it iu ∙ ap (count_by (is_edge t u)) (take_all c.loop-item.item-index c.items-items.result.now c.loop-item-test.false ∙ c.items-items.ensures.value)
+    c.loop-item.invariant.counts t u it iu
+    ∙ ap (count_by (is_edge t u))
+    (take_all c.loop-item.item-index c.items-items.result.now c.loop-item-test.false ∙ c.items-items.ensures.value)

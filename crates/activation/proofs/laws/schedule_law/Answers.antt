@@ -12,8 +12,10 @@ returns-clause-legal c = λ s priority events h. schedule_legal s priority (firs
 
 pub returns-clause-each_once : goal.returns-clause-each_once
 returns-clause-each_once c = λ s set priority events h.
-    run_each_once c.start_law.ensures.safe c.event_law.ensures.kept s set events (schedule_legal s priority (first_moment s) events h) (schedule_ends s priority (first_moment s) events h)
+    run_each_once c.start_law.ensures.safe c.event_law.ensures.kept s set events
+    (schedule_legal s priority (first_moment s) events h) (schedule_ends s priority (first_moment s) events h)
 
 pub returns-clause-within : goal.returns-clause-within
 returns-clause-within c = λ s set priority before rest h.
-    c.within_law.ensures s set before (legal_front s (first_moment s).state before rest (schedule_legal s priority (first_moment s) (before ++ rest) h))
+    c.within_law.ensures s set before
+    (legal_front s (first_moment s).state before rest (schedule_legal s priority (first_moment s) (before ++ rest) h))

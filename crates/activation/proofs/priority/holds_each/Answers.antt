@@ -4,7 +4,8 @@ use Rattle.std.proofs.lemmas.List.{get_or_read}
 use Rattle.mp_system.specs.System.{IsTask}
 use Rattle.activation.proofs.Priorities.{one_marked, holds_a_task, holds_none_twice, each_held, all_found}
 use Rattle.activation.proofs.priority.holds_each.Goals as goal
-use Rattle.activation.proofs.priority.holds_each.Goals.{then-not-is_number-via-then-not-is_number, then-not-is_number-via-else-not-is_number+then-index}
+use Rattle.activation.proofs.priority.holds_each.Goals.{then-not-is_number-via-then-not-is_number}
+use Rattle.activation.proofs.priority.holds_each.Goals.{then-not-is_number-via-else-not-is_number+then-index}
 
 pub returns-then-not-is_number : goal.returns-then-not-is_number
 returns-then-not-is_number c = (
@@ -13,9 +14,11 @@ returns-then-not-is_number c = (
       let m = c.loop-task.invariant in
       let is = holds_a_task m c.loop-task-test.true each in
       elim c.then-not-is_number.branch [
-        | then-not-is_number-via-then-not-is_number w ↦ absurd (true≢false (sym (c.is_number.ensures.1 (is.0, omega (arith, is.1, m.long, c.len.ensures))) ∙ w.if-not-is_number.true))
+        | then-not-is_number-via-then-not-is_number w ↦
+            absurd (true≢false (sym (c.is_number.ensures.1 (is.0, omega (arith, is.1, m.long, c.len.ensures))) ∙ w.if-not-is_number.true))
         | then-not-is_number-via-else-not-is_number+then-index w ↦
-            let at = get_or_read c.loop-task.found.items (get_or c.args.priority.now c.loop-task.task-index 0 - 1) w.index.result.now (omega (arith, is.0, is.1, m.long)) w.index.ensures false in
+            let at = get_or_read c.loop-task.found.items (get_or c.args.priority.now c.loop-task.task-index 0 - 1) w.index.result.now
+            (omega (arith, is.0, is.1, m.long)) w.index.ensures false in
             absurd (holds_none_twice m c.loop-task-test.true each (sym at ∙ w.if-index.true))
       ],
 )
@@ -24,8 +27,10 @@ pub loop-task-preserved : goal.loop-task-preserved
 loop-task-preserved c =
     let m = c.loop-task.invariant in
     let n = c.is_number.ensures.0 c.if-not-is_number.false in
-    let is : IsTask c.args.system.now (get_or c.args.priority.now c.loop-task.task-index 0) = (n.0, omega (arith, n.1, m.long, c.len.ensures)) in
-    let at = get_or_read c.loop-task.found.items (get_or c.args.priority.now c.loop-task.task-index 0 - 1) c.index.result.now (omega (arith, is.0, is.1, m.long)) c.index.ensures false in
+    let is : IsTask c.args.system.now (get_or c.args.priority.now c.loop-task.task-index 0) =
+    (n.0, omega (arith, n.1, m.long, c.len.ensures)) in
+    let at = get_or_read c.loop-task.found.items (get_or c.args.priority.now c.loop-task.task-index 0 - 1) c.index.result.now
+    (omega (arith, is.0, is.1, m.long)) c.index.ensures false in
     one_marked m c.loop-task-test.true is (sym at ∙ c.if-index.false)
 
 pub returns : goal.returns

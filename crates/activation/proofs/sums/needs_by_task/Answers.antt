@@ -18,33 +18,43 @@ loop-i-init c = record {
 pub overflow_add-tasks : goal.overflow_add-tasks
 overflow_add-tasks c =
     let i = c.loop-i.i in
-    let f = task_facts c.args.system.now c.tasks-tasks.ensures.system c.tasks-tasks.result.now c.tasks-tasks.ensures.value i (record { extra = 0; share = 0; time = 0 }) c.loop-i-test.true in
+    let f = task_facts c.args.system.now c.tasks-tasks.ensures.system c.tasks-tasks.result.now c.tasks-tasks.ensures.value i
+    (record { extra = 0; share = 0; time = 0 }) c.loop-i-test.true in
     let w : i < length c.loop-i.needs.items = omega (arith, c.loop-i.invariant.needs_len, ap length c.tasks-tasks.ensures.value) in
-    let read : c.index.result.now ≡ outputs_of c.args.system.now (i + 1) = get_or_read c.loop-i.needs.items i c.index.result.now w c.index.ensures 0 ∙ c.loop-i.invariant.outputs i (omega arith) in
+    let read : c.index.result.now ≡ outputs_of c.args.system.now (i + 1) =
+    get_or_read c.loop-i.needs.items i c.index.result.now w c.index.ensures 0 ∙ c.loop-i.invariant.outputs i (omega arith) in
     omega (arith, read, f.extra, f.few_outputs)
 
 pub overflow_sub-tasks : goal.overflow_sub-tasks
 overflow_sub-tasks c =
     let i = c.loop-i.i in
-    let f = task_facts c.args.system.now c.tasks-tasks.ensures.system c.tasks-tasks.result.now c.tasks-tasks.ensures.value i (record { extra = 0; share = 0; time = 0 }) c.loop-i-test.true in
+    let f = task_facts c.args.system.now c.tasks-tasks.ensures.system c.tasks-tasks.result.now c.tasks-tasks.ensures.value i
+    (record { extra = 0; share = 0; time = 0 }) c.loop-i-test.true in
     let w : i < length c.loop-i.needs.items = omega (arith, c.loop-i.invariant.needs_len, ap length c.tasks-tasks.ensures.value) in
-    let read : c.index.result.now ≡ outputs_of c.args.system.now (i + 1) = get_or_read c.loop-i.needs.items i c.index.result.now w c.index.ensures 0 ∙ c.loop-i.invariant.outputs i (omega arith) in
+    let read : c.index.result.now ≡ outputs_of c.args.system.now (i + 1) =
+    get_or_read c.loop-i.needs.items i c.index.result.now w c.index.ensures 0 ∙ c.loop-i.invariant.outputs i (omega arith) in
     omega (arith, read, f.whole)
 
 pub overflow_add-tasks-in-loop-i : goal.overflow_add-tasks-in-loop-i
 overflow_add-tasks-in-loop-i c =
     let i = c.loop-i.i in
-    let f = task_facts c.args.system.now c.tasks-tasks.ensures.system c.tasks-tasks.result.now c.tasks-tasks.ensures.value i (record { extra = 0; share = 0; time = 0 }) c.loop-i-test.true in
+    let f = task_facts c.args.system.now c.tasks-tasks.ensures.system c.tasks-tasks.result.now c.tasks-tasks.ensures.value i
+    (record { extra = 0; share = 0; time = 0 }) c.loop-i-test.true in
     let w : i < length c.loop-i.frees.items = omega (arith, c.loop-i.invariant.frees_len, ap length c.tasks-tasks.ensures.value) in
-    let read : c.index-in-loop-i.result.now ≡ inputs_of c.args.system.now (i + 1) = get_or_read c.loop-i.frees.items i c.index-in-loop-i.result.now w c.index-in-loop-i.ensures 0 ∙ c.loop-i.invariant.inputs i (omega arith) in
+    let read : c.index-in-loop-i.result.now ≡ inputs_of c.args.system.now (i + 1) =
+    get_or_read c.loop-i.frees.items i c.index-in-loop-i.result.now w c.index-in-loop-i.ensures 0
+    ∙ c.loop-i.invariant.inputs i (omega arith) in
     omega (arith, read, f.extra, f.few_inputs)
 
 pub overflow_sub-tasks-in-loop-i : goal.overflow_sub-tasks-in-loop-i
 overflow_sub-tasks-in-loop-i c =
     let i = c.loop-i.i in
-    let f = task_facts c.args.system.now c.tasks-tasks.ensures.system c.tasks-tasks.result.now c.tasks-tasks.ensures.value i (record { extra = 0; share = 0; time = 0 }) c.loop-i-test.true in
+    let f = task_facts c.args.system.now c.tasks-tasks.ensures.system c.tasks-tasks.result.now c.tasks-tasks.ensures.value i
+    (record { extra = 0; share = 0; time = 0 }) c.loop-i-test.true in
     let w : i < length c.loop-i.frees.items = omega (arith, c.loop-i.invariant.frees_len, ap length c.tasks-tasks.ensures.value) in
-    let read : c.index-in-loop-i.result.now ≡ inputs_of c.args.system.now (i + 1) = get_or_read c.loop-i.frees.items i c.index-in-loop-i.result.now w c.index-in-loop-i.ensures 0 ∙ c.loop-i.invariant.inputs i (omega arith) in
+    let read : c.index-in-loop-i.result.now ≡ inputs_of c.args.system.now (i + 1) =
+    get_or_read c.loop-i.frees.items i c.index-in-loop-i.result.now w c.index-in-loop-i.ensures 0
+    ∙ c.loop-i.invariant.inputs i (omega arith) in
     omega (arith, read, f.inputs)
 
 pub returns-clause-needs : goal.returns-clause-needs
@@ -54,5 +64,6 @@ returns-clause-needs c = λ t is.
 
 pub returns-clause-frees : goal.returns-clause-frees
 returns-clause-frees c = λ t is.
-    of_task (λ (x u : ℕ). x + outputs_of c.args.system.now u ≡ need_of c.args.system.now u + inputs_of c.args.system.now u) c.loop-i.frees.items (length c.args.system.now.tasks)
+    of_task (λ (x u : ℕ). x + outputs_of c.args.system.now u ≡ need_of c.args.system.now u + inputs_of c.args.system.now u)
+    c.loop-i.frees.items (length c.args.system.now.tasks)
     (λ k w. c.loop-i.invariant.frees k (omega (arith, ap length c.tasks-tasks.ensures.value))) t is.0 is.1

@@ -8,7 +8,8 @@ invariant-loop-i l = record {
   needs_len : length l.needs.items ≡ length l.system.tasks;
   frees_len : length l.frees.items ≡ length l.system.tasks;
   needs : (k : ℕ) → k < l.i → slice_index l.needs.items k ≡ need_of l.system (k + 1);
-  frees : (k : ℕ) → k < l.i → slice_index l.frees.items k + outputs_of l.system (k + 1) ≡ need_of l.system (k + 1) + inputs_of l.system (k + 1);
+  frees : (k : ℕ) → k < l.i
+      → slice_index l.frees.items k + outputs_of l.system (k + 1) ≡ need_of l.system (k + 1) + inputs_of l.system (k + 1);
   outputs : (k : ℕ) → l.i ≤ k → slice_index l.needs.items k ≡ outputs_of l.system (k + 1);
   inputs : (k : ℕ) → l.i ≤ k → slice_index l.frees.items k ≡ inputs_of l.system (k + 1);
 }

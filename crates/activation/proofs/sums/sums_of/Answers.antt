@@ -23,17 +23,21 @@ loop-i-init c =
 pub add_size-requires : goal.add_size-requires
 add_size-requires c = λ t is.
     let items = c.items-items.result.now in
-    let r = consumer_is_task c.args.system.now c.items-items.ensures.system items c.items-items.ensures.value c.loop-i.i no_item c.loop-i-test.true t is in
+    let r = consumer_is_task c.args.system.now c.items-items.ensures.system items
+    c.items-items.ensures.value c.loop-i.i no_item c.loop-i-test.true t is in
     let fits = size_fits (is_input t) items c.loop-i.i no_item c.loop-i-test.true is in
     let total = c.items-items.ensures.system.total in
     let same = ap (sum_by item_size) c.items-items.ensures.value in
-    rw c.deref_mut.ensures.value ((r.0, omega (arith, r.1, c.loop-i.invariant.inputs_len)), omega (arith, fits, total, same, c.loop-i.invariant.inputs t))
+    rw c.deref_mut.ensures.value
+    ((r.0, omega (arith, r.1, c.loop-i.invariant.inputs_len)), omega (arith, fits, total, same, c.loop-i.invariant.inputs t))
 
 pub add_size-requires-in-loop-i : goal.add_size-requires-in-loop-i
 add_size-requires-in-loop-i c = λ t is.
     let items = c.items-items.result.now in
-    let r = producer_is_task c.args.system.now c.items-items.ensures.system items c.items-items.ensures.value c.loop-i.i no_item c.loop-i-test.true t is in
+    let r = producer_is_task c.args.system.now c.items-items.ensures.system items
+    c.items-items.ensures.value c.loop-i.i no_item c.loop-i-test.true t is in
     let fits = size_fits (is_output t) items c.loop-i.i no_item c.loop-i-test.true is in
     let total = c.items-items.ensures.system.total in
     let same = ap (sum_by item_size) c.items-items.ensures.value in
-    rw c.deref_mut-in-loop-i.ensures.value ((r.0, omega (arith, r.1, c.loop-i.invariant.outputs_len)), omega (arith, fits, total, same, c.loop-i.invariant.outputs t))
+    rw c.deref_mut-in-loop-i.ensures.value
+    ((r.0, omega (arith, r.1, c.loop-i.invariant.outputs_len)), omega (arith, fits, total, same, c.loop-i.invariant.outputs t))

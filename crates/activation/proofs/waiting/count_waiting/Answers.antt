@@ -18,8 +18,12 @@ loop-i-init c =
 pub add_size-requires : goal.add_size-requires
 add_size-requires c = λ t is.
     let items = c.items-items.result.now in
-    let r = consumer_is_task c.args.system.now c.items-items.ensures.system items c.items-items.ensures.value c.loop-i.i no_item c.loop-i-test.true t is in
+    let r = consumer_is_task c.args.system.now c.items-items.ensures.system items
+    c.items-items.ensures.value c.loop-i.i no_item c.loop-i-test.true t is in
     let few = count_by-le-length (is_awaited (λ _. false) t) (take c.loop-i.i items) in
     let some = c.items-items.ensures.system.few_items in
     let len = ap length c.items-items.ensures.value in
-    rw c.deref_mut.ensures.value ((r.0, omega (arith, r.1, c.loop-i.invariant.len)), omega (arith, few, some, len, c.loop-i.invariant.counts t, length-take c.loop-i.i items, c.loop-i-test.true))
+    rw c.deref_mut.ensures.value (
+      (r.0, omega (arith, r.1, c.loop-i.invariant.len)),
+      omega (arith, few, some, len, c.loop-i.invariant.counts t, length-take c.loop-i.i items, c.loop-i-test.true),
+    )

@@ -8,4 +8,6 @@ use Rattle.activation.proofs.waiting.waiting_of.Goals as goal
 pub returns : goal.returns
 returns c =
     let list = c.in_ok-waiting.waiting.items in
-    IfOk-weaker c.by_place.result _ _ (λ made is. placed (λ t. get_or list (t - 1) 0) {P = IsTask c.args.system.now} c.requires (rw c.deref.ensures.value at is) (λ t it. number_at list t it.0 ∙ c.in_ok-waiting.ensures.counts t)) c.by_place.ensures
+    IfOk-weaker c.by_place.result _ _
+    (λ made is. placed (λ t. get_or list (t - 1) 0) {P = IsTask c.args.system.now} c.requires
+    (rw c.deref.ensures.value at is) (λ t it. number_at list t it.0 ∙ c.in_ok-waiting.ensures.counts t)) c.by_place.ensures

@@ -18,9 +18,15 @@ nodes_of-requires-clause-fits c = rw c.supers-supers.ensures.value (fronts_insid
 
 pub new-requires : goal.new-requires
 new-requires c =
-    let is = c.in_ok-nodes.ensures ∙ fronts_with c.args.shape c.args.inplace c.supers-supers.result.now c.deref.result.now (rw c.deref.ensures.value c.in_ok-shares.ensures.shares) ∙ ap (nodes_of_fronts c.args.shape c.args.inplace) c.supers-supers.ensures.value in
+    let is = c.in_ok-nodes.ensures
+    ∙ fronts_with c.args.shape c.args.inplace c.supers-supers.result.now c.deref.result.now
+    (rw c.deref.ensures.value c.in_ok-shares.ensures.shares)
+    ∙ ap (nodes_of_fronts c.args.shape c.args.inplace) c.supers-supers.ensures.value in
     subst IsTree (sym is) (fronts_tree c.args.shape c.args.inplace c.args.assembly.now c.supers-supers.ensures.assembly)
 
 pub returns : goal.returns
 returns c =
-    c.new.ensures ∙ c.in_ok-nodes.ensures ∙ fronts_with c.args.shape c.args.inplace c.supers-supers.result.now c.deref.result.now (rw c.deref.ensures.value c.in_ok-shares.ensures.shares) ∙ ap (nodes_of_fronts c.args.shape c.args.inplace) c.supers-supers.ensures.value
+    c.new.ensures ∙ c.in_ok-nodes.ensures
+    ∙ fronts_with c.args.shape c.args.inplace c.supers-supers.result.now c.deref.result.now
+    (rw c.deref.ensures.value c.in_ok-shares.ensures.shares)
+    ∙ ap (nodes_of_fronts c.args.shape c.args.inplace) c.supers-supers.ensures.value

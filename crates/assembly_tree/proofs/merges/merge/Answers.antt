@@ -7,9 +7,11 @@ use Rattle.assembly_tree.specs.MergeTables.{stays}
 use Rattle.assembly_tree.proofs.JoinLemmas.{stays-root, stays-dear, stays-cheap}
 use Rattle.assembly_tree.proofs.MergeLemmas.{merging_none, merging_stays, merging_goes}
 use Rattle.assembly_tree.proofs.merges.merge.Goals as goal
-use Rattle.assembly_tree.proofs.merges.merge.Goals.{then-p-ne0+then-is_cheap, else-p-ne0, else-p-ne0-via-then-p-ne0+else-is_cheap, else-p-ne0-via-else-p-ne0}
+use Rattle.assembly_tree.proofs.merges.merge.Goals.{then-p-ne0+then-is_cheap, else-p-ne0, else-p-ne0-via-then-p-ne0+else-is_cheap}
+use Rattle.assembly_tree.proofs.merges.merge.Goals.{else-p-ne0-via-else-p-ne0}
 
-dear : (zeros : ℕ) (new : List Super) (s : ℕ) → (super_at new s).parent ≢ 0 → (zeros_of (super_at new s) (super_at new ((super_at new s).parent)) ≤ zeros → IsTrue false) → stays zeros new s ≡ true
+dear : (zeros : ℕ) (new : List Super) (s : ℕ) → (super_at new s).parent ≢ 0
+    → (zeros_of (super_at new s) (super_at new ((super_at new s).parent)) ≤ zeros → IsTrue false) → stays zeros new s ≡ true
 dear zeros new s child not_cheap =
     elim (cases_lt zeros (zeros_of (super_at new s) (super_at new ((super_at new s).parent)))) [
       | inl more ↦ stays-dear zeros new s child more
@@ -27,10 +29,12 @@ loop-i-preserved c =
     let i = c.loop-i.i in
     elim c.if-p-ne0.branch [
       | then-p-ne0+then-is_cheap w ↦ rw (w.supers-is, w.join.ensures) (
-          merging_goes zeros old new i c.loop-i.invariant c.loop-i-test.true c.requires.each _ refl w.if-p-ne0.true (stays-cheap zeros new (i + 1) w.if-p-ne0.true (w.if-is_cheap.ensures.0 refl))
+          merging_goes zeros old new i c.loop-i.invariant c.loop-i-test.true c.requires.each _ refl w.if-p-ne0.true
+          (stays-cheap zeros new (i + 1) w.if-p-ne0.true (w.if-is_cheap.ensures.0 refl))
           )
-      | else-p-ne0 w ↦ rw w.supers-is (merging_stays zeros old new i c.loop-i.invariant c.loop-i-test.true c.requires.each _ refl (elim w.else-p-ne0.branch [
-        | else-p-ne0-via-then-p-ne0+else-is_cheap w' ↦ dear zeros new (i + 1) w'.if-p-ne0.true w'.if-is_cheap.ensures.1
-        | else-p-ne0-via-else-p-ne0 w' ↦ stays-root zeros new (i + 1) w'.if-p-ne0.false
-      ]))
+      | else-p-ne0 w ↦ rw w.supers-is
+          (merging_stays zeros old new i c.loop-i.invariant c.loop-i-test.true c.requires.each _ refl (elim w.else-p-ne0.branch [
+            | else-p-ne0-via-then-p-ne0+else-is_cheap w' ↦ dear zeros new (i + 1) w'.if-p-ne0.true w'.if-is_cheap.ensures.1
+            | else-p-ne0-via-else-p-ne0 w' ↦ stays-root zeros new (i + 1) w'.if-p-ne0.false
+          ]))
     ]

@@ -6,12 +6,26 @@ use Rattle.assembly_tree.proofs.runs.cut.Goals.{then-not-goes_on+in_ok-push-2, e
 pub overflow_cast-len : goal.overflow_cast-len
 overflow_cast-len c =
     let r = c.loop-i.invariant in
-    omega (arith, supers-le c.loop-i.supers.items (length c.loop-i.supers.items) r.some (omega arith), r.total, c.loop-i.supers.ok, c.requires.counts.len, c.requires.forest.few)
+    omega (
+      arith,
+      supers-le c.loop-i.supers.items (length c.loop-i.supers.items) r.some (omega arith),
+      r.total,
+      c.loop-i.supers.ok,
+      c.requires.counts.len,
+      c.requires.forest.few,
+    )
 
 pub overflow_add-len : goal.overflow_add-len
 overflow_add-len c =
     let r = c.loop-i.invariant in
-    omega (arith, supers-le c.loop-i.supers.items (length c.loop-i.supers.items) r.some (omega arith), r.total, c.loop-i.supers.ok, c.requires.counts.len, c.requires.forest.few)
+    omega (
+      arith,
+      supers-le c.loop-i.supers.items (length c.loop-i.supers.items) r.some (omega arith),
+      r.total,
+      c.loop-i.supers.ok,
+      c.requires.counts.len,
+      c.requires.forest.few,
+    )
 
 pub loop-i-preserved : goal.loop-i-preserved
 loop-i-preserved c =
@@ -24,12 +38,14 @@ loop-i-preserved c =
     let here = ap (λ (k : ℕ). get_or counts k 0) back in
     elim c.if-not-goes_on.branch [
       | then-not-goes_on+in_ok-push-2 w ↦ rw (w.supers-is, w.columns-is, w.in_ok-push-2.ensures.items, nodes) (
-          runs_cut c.args.parents.now counts c.loop-i.supers.items c.loop-i.nodes.items c.loop-i.columns i r _ (omega arith) (omega (arith, here)) w.at.ensures.value
+          runs_cut c.args.parents.now counts c.loop-i.supers.items c.loop-i.nodes.items c.loop-i.columns i r _
+          (omega arith) (omega (arith, here)) w.at.ensures.value
           (c.requires.counts.each (i + 1) (omega arith, omega (arith, c.requires.counts.len))).some
           (ends_here c.args.parents.now counts (i + 1) c.goes_on.result w.if-not-goes_on.true c.goes_on.ensures.1)
           )
       | else-not-goes_on w ↦ rw (w.supers-is, w.columns-is, nodes) (
-          runs_on c.args.parents.now counts c.loop-i.supers.items c.loop-i.nodes.items c.loop-i.columns i r (c.goes_on.ensures.0 w.if-not-goes_on.false)
+          runs_on c.args.parents.now counts c.loop-i.supers.items c.loop-i.nodes.items c.loop-i.columns i r
+          (c.goes_on.ensures.0 w.if-not-goes_on.false)
           )
     ]
 
@@ -37,5 +53,6 @@ pub returns : goal.returns
 returns c =
     let n : c.loop-i.i ≡ length c.args.parents.now = omega (arith, c.requires.counts.len) in
     let r = rw n at c.loop-i.invariant in
-    let none = runs_all c.args.parents.now c.args.counts.now c.loop-i.supers.items c.loop-i.nodes.items c.loop-i.columns c.requires.forest r in
+    let none =
+    runs_all c.args.parents.now c.args.counts.now c.loop-i.supers.items c.loop-i.nodes.items c.loop-i.columns c.requires.forest r in
     rw none at r

@@ -7,9 +7,11 @@ supernodes_of-requires-clause-len c =
     let rows = c.args.pattern.now in
     let analysis = c.in_ok-numbered.field-0 in
     let is = c.in_ok-numbered.ensures in
-    let assembly = c.one_analysis.ensures.tree rows c.args.order.now analysis.numbered.perm analysis.assembly c.keeps.ensures c.requires.len is.analysis in
+    let assembly = c.one_analysis.ensures.tree rows c.args.order.now
+    analysis.numbered.perm analysis.assembly c.keeps.ensures c.requires.len is.analysis in
     columns_long rows analysis.numbered.perm analysis.numbered.parents _ analysis.assembly is.tree is.supernodes
-    ∙ sym (relaxed_long c.amalgamation_is_relaxed.ensures c.args.options.zeros analysis.assembly c.in_ok-merged.merged assembly c.in_ok-merged.ensures)
+    ∙ sym (relaxed_long c.amalgamation_is_relaxed.ensures c.args.options.zeros
+    analysis.assembly c.in_ok-merged.merged assembly c.in_ok-merged.ensures)
 
 pub returns-clause-fronts : goal.returns-clause-fronts
 returns-clause-fronts c =
@@ -25,9 +27,12 @@ returns-clause-few c =
     let analysis = c.in_ok-numbered.field-0 in
     let is = c.in_ok-numbered.ensures in
     let merged = c.in_ok-merged.merged in
-    let assembly = c.one_analysis.ensures.tree rows c.args.order.now analysis.numbered.perm analysis.assembly c.keeps.ensures c.requires.len is.analysis in
-    let is_assembly = relaxed_assembly c.amalgamation_is_assembly.ensures c.args.options.zeros analysis.assembly merged assembly c.in_ok-merged.ensures in
+    let assembly = c.one_analysis.ensures.tree rows c.args.order.now
+    analysis.numbered.perm analysis.assembly c.keeps.ensures c.requires.len is.analysis in
+    let is_assembly = relaxed_assembly c.amalgamation_is_assembly.ensures
+    c.args.options.zeros analysis.assembly merged assembly c.in_ok-merged.ensures in
     let few = few_fronts c.args.options.shape c.args.options.inplace merged c.in_ok-tree.tree is_assembly c.in_ok-tree.ensures in
-    let long = relaxed_long c.amalgamation_is_relaxed.ensures c.args.options.zeros analysis.assembly merged assembly c.in_ok-merged.ensures in
+    let long =
+    relaxed_long c.amalgamation_is_relaxed.ensures c.args.options.zeros analysis.assembly merged assembly c.in_ok-merged.ensures in
     let columns = columns_long rows analysis.numbered.perm analysis.numbered.parents _ analysis.assembly is.tree is.supernodes in
     omega (arith, few, long, columns, is.len)

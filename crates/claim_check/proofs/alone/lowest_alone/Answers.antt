@@ -9,13 +9,15 @@ pub returns-then-is_some : goal.returns-then-is_some
 returns-then-is_some c =
     let ps = c.args.view.now.positions in
     let cs = c.args.view.now.claims in
-    lowest_inside ps (claim_at cs) (passes_0 ps cs c.len.ensures.claims.rising) c.lowest_in-first.result (sym c.is_some.ensures ∙ c.if-is_some.true)
+    lowest_inside ps (claim_at cs) (passes_0 ps cs c.len.ensures.claims.rising) c.lowest_in-first.result
+    (sym c.is_some.ensures ∙ c.if-is_some.true)
     (subst (λ n. IsLowestIn ps (claim_at cs) 1 (n + 1) c.lowest_in-first.result) c.len.ensures.value c.lowest_in-first.ensures)
 
 pub returns : goal.returns
 returns c =
     let ps = c.args.view.now.positions in
     let cs = c.args.view.now.claims in
-    lowest_outside ps (claim_at cs) (passes_0 ps cs c.len.ensures.claims.rising) c.lowest_in-first.result (sym c.is_some.ensures ∙ c.if-is_some.false)
+    lowest_outside ps (claim_at cs) (passes_0 ps cs c.len.ensures.claims.rising) c.lowest_in-first.result
+    (sym c.is_some.ensures ∙ c.if-is_some.false)
     (subst (λ n. IsLowestIn ps (claim_at cs) 1 (n + 1) c.lowest_in-first.result) c.len.ensures.value c.lowest_in-first.ensures)
     c.first_outside.result c.first_outside.ensures

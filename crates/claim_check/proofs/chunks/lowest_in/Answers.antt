@@ -5,7 +5,8 @@ use Rattle.claim_check.proofs.Chunked.{one_more, is_none}
 use Rattle.claim_check.proofs.chunks.lowest_in.Goals as goal
 
 pub loop-position-preserved : goal.loop-position-preserved
-loop-position-preserved c = one_more (PassesAt c.args.view.now.positions (claim_at c.args.view.now.claims)) c.args.from c.loop-position.position c.loop-position.invariant
+loop-position-preserved c = one_more (PassesAt c.args.view.now.positions (claim_at c.args.view.now.claims))
+    c.args.from c.loop-position.position c.loop-position.invariant
     (c.check_at.ensures.none.0 (is_none c.check_at.result (sym c.is_some.ensures ∙ c.if-is_some.false)))
 
 pub returns : goal.returns

@@ -28,7 +28,8 @@ hill-hill-requires c = let s = series_at c.args.view.now.positions c.args.positi
     let k = c.args.position in
     let w = ap (λ (v : Values). v.width) c.part-right.ensures.values ∙ ap width_of s.last_is in
     let right = ap (λ (v : Values). v.initial) c.part-right.ensures.values ∙ ap initial_of s.last_is in
-    let left = ap (λ (v : Values). v.fin) c.part-left.ensures.values ∙ ap (λ n. final_of (term_of_position ps (k - 1 - n))) w ∙ ap final_of s.first_is in
+    let left = ap (λ (v : Values). v.fin) c.part-left.ensures.values
+    ∙ ap (λ n. final_of (term_of_position ps (k - 1 - n))) w ∙ ap final_of s.first_is in
     record { small = omega (arith, s.small, left, right); share = omega (arith, s.share, right) }
 
 pub returns : goal.returns

@@ -14,9 +14,11 @@ returns-clause-own c = λ ps plan terms accepted.
     let root = accepted.root in
     let stands = accepted.claims (length ps) root.0 root.1 in
     let system = system_of_term (term_of ps) in
-    let sound = c.list_law.ensures.sound ps (claim_at plan.claims) terms (λ k claim low high is. (accepted.claims k claim is).2) (length ps) root.0 stands.0 stands.1 root.1 in
+    let sound = c.list_law.ensures.sound ps (claim_at plan.claims) terms
+    (λ k claim low high is. (accepted.claims k claim is).2) (length ps) root.0 stands.0 stands.1 root.1 in
     let whole = subst (λ t. IsSound t root.0) (c.position_law.ensures.last ps terms) sound in
-    let above : pos (peak_of system plan.order) ≤ℤ (root.0.bound +ℤ pos 1) = subst (λ n. pos n ≤ℤ (root.0.bound +ℤ pos 1)) (sym accepted.peak) root.2 in
+    let above : pos (peak_of system plan.order) ≤ℤ (root.0.bound +ℤ pos 1) =
+    subst (λ n. pos n ≤ℤ (root.0.bound +ℤ pos 1)) (sym accepted.peak) root.2 in
     subst (IsLeast system) accepted.peak (c.least_law.ensures (term_of ps) root.0 plan.order accepted.traversal whole above)
 
 pub returns-clause-renamed : goal.returns-clause-renamed

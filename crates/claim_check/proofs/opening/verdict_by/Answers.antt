@@ -14,4 +14,5 @@ returns-in-Some c = λ system settled.
     let ps = c.args.view.now.positions in
     let plan = c.args.plan.now in
     said_no system ps plan c.in-Some.position c.shape.result settled
-    (of_plan ps plan c.args.view.now.claims c.args.lowest (Some c.in-Some.position) c.requires.claims c.in-Some.is c.requires.lowest) c.shape.ensures
+    (of_plan ps plan c.args.view.now.claims c.args.lowest (Some c.in-Some.position) c.requires.claims c.in-Some.is c.requires.lowest)
+    c.shape.ensures

@@ -4,7 +4,8 @@ use Rattle.claim_rules.proofs.laws.derivation_law.Goals as goal
 
 pub returns : goal.returns
 returns c =
-    let states : StateLaws = record { first = c.state_law.ensures.first; least = c.state_law.ensures.least; back = c.state_law.ensures.back } in
+    let states : StateLaws =
+    record { first = c.state_law.ensures.first; least = c.state_law.ensures.least; back = c.state_law.ensures.back } in
     let ways : WayLaws = record {
       traversal = c.run_law.ensures.traversal;
       way = c.run_law.ensures.way;

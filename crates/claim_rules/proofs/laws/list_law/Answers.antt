@@ -9,4 +9,5 @@ returns-clause-derived c = λ ps claim_at terms meet k claim low high is.
 pub returns-clause-sound : goal.returns-clause-sound
 returns-clause-sound c = λ ps claim_at terms meet k claim low high is.
     let laws : PositionLaws = record { parts = c.position_law.ensures.parts; before = c.position_law.ensures.before } in
-    c.derivation_law.ensures _ claim (c.position_law.ensures.allowed ps k terms low high) (all_derived laws ps claim_at terms meet k claim low high is)
+    c.derivation_law.ensures _ claim (c.position_law.ensures.allowed ps k terms low high)
+    (all_derived laws ps claim_at terms meet k claim low high is)

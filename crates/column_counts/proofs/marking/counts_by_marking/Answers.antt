@@ -22,7 +22,12 @@ pub returns : goal.returns
 returns c =
     let joined = renumbered (is_joined c.args.pattern.now) c.args.perm.now in
     let whole : c.deref.result.now ≡ c.mark_rows.new.counts =
-    c.deref.ensures.value ∙ written c.mark_rows.new.counts (drop (length c.mark_rows.new.counts) c.in_ok-counts.counts.items) c.in_ok-counts.counts.len (same_len (goal.at.returns c).After-mark_rows) in
-    IfOk-weaker c.from_slice.result (λ v. v.items ≡ take (length c.deref.result.now - 1) (drop 1 c.deref.result.now)) (λ v. v.items ≡ counts_of joined (length c.args.perm.now))
-    (λ v e. e ∙ without_first c.deref.result.now ∙ ap (drop 1) whole ∙ are_counts joined (length c.args.perm.now) c.mark_rows.new.counts (long (goal.at.returns c).After-mark_rows) c.mark_rows.ensures.all)
+    c.deref.ensures.value
+    ∙ written c.mark_rows.new.counts (drop (length c.mark_rows.new.counts) c.in_ok-counts.counts.items) c.in_ok-counts.counts.len
+    (same_len (goal.at.returns c).After-mark_rows) in
+    IfOk-weaker c.from_slice.result (λ v. v.items ≡ take (length c.deref.result.now - 1) (drop 1 c.deref.result.now))
+    (λ v. v.items ≡ counts_of joined (length c.args.perm.now))
+    (λ v e. e ∙ without_first c.deref.result.now ∙ ap (drop 1) whole
+    ∙ are_counts joined (length c.args.perm.now) c.mark_rows.new.counts
+    (long (goal.at.returns c).After-mark_rows) c.mark_rows.ensures.all)
     c.from_slice.ensures.items

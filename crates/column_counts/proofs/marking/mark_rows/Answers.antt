@@ -14,7 +14,8 @@ rows_are c = record {
   place_back = c.places_are_inverse.ensures.place (length c.args.perm.now) c.args.perm.now c.keeps.ensures;
 }
 
-factor_is : (c : After-rows-i-end) → IsFactor (renumbered (is_joined c.args.pattern.now) c.args.perm.now) (length c.args.perm.now) c.args.parents.now
+factor_is : (c : After-rows-i-end)
+    → IsFactor (renumbered (is_joined c.args.pattern.now) c.args.perm.now) (length c.args.perm.now) c.args.parents.now
 factor_is c =
     let joined = renumbered (is_joined c.args.pattern.now) c.args.perm.now in
     let pattern = c.renumbered_pattern.ensures.pattern c.args.pattern.now c.args.perm.now c.rows-i-end.ensures.pattern in
@@ -31,14 +32,16 @@ factor_is c =
 
 pub mark_row-requires-clause-lengths : goal.mark_row-requires-clause-lengths
 mark_row-requires-clause-lengths c =
-    let long = long_parents (renumbered (is_joined c.args.pattern.now) c.args.perm.now) (length c.args.perm.now) c.args.parents.now (factor_is (goal.at.mark_row-requires-clause-lengths c).After-rows-i-end) in
+    let long = long_parents (renumbered (is_joined c.args.pattern.now) c.args.perm.now)
+    (length c.args.perm.now) c.args.parents.now (factor_is (goal.at.mark_row-requires-clause-lengths c).After-rows-i-end) in
     let lengths = c.requires.lengths in
     let same = c.requires.len in
     (omega arith, omega arith, omega arith)
 
 pub mark_row-requires-clause-vertices : goal.mark_row-requires-clause-vertices
 mark_row-requires-clause-vertices c =
-    vertex_in_list c.args.pattern.now c.args.perm.now (rows_are (goal.at.mark_row-requires-clause-vertices c).After-rows-i-end) c.loop-i.i c.neighbours-row.result.now
+    vertex_in_list c.args.pattern.now c.args.perm.now
+    (rows_are (goal.at.mark_row-requires-clause-vertices c).After-rows-i-end) c.loop-i.i c.neighbours-row.result.now
     (c.neighbours-row.ensures ∙ ap (neighbours_of c.args.pattern.now) c.at.ensures.value)
 
 pub mark_row-requires-clause-row : goal.mark_row-requires-clause-row
@@ -46,7 +49,8 @@ mark_row-requires-clause-row c =
     let before = (goal.at.mark_row-requires-clause-row c).After-rows-i-end in
     let same = c.requires.len in (
       row_of (renumbered (is_joined c.args.pattern.now) c.args.perm.now) c.loop-i.i,
-      can_mark c.args.pattern.now c.args.perm.now (rows_are before) c.loop-i.i c.neighbours-row.result.now (c.neighbours-row.ensures ∙ ap (neighbours_of c.args.pattern.now) c.at.ensures.value)
+      can_mark c.args.pattern.now c.args.perm.now (rows_are before) c.loop-i.i c.neighbours-row.result.now
+          (c.neighbours-row.ensures ∙ ap (neighbours_of c.args.pattern.now) c.at.ensures.value)
           c.args.parents.now (factor_is before) (omega arith) c.loop-i.counts c.loop-i.marks c.loop-i.invariant,
     )
 
@@ -61,11 +65,13 @@ loop-i-preserved c =
     let last : c.loop-i.i + 1 - 1 ≡ c.loop-i.i = omega arith in
     λ x.
     let now = all_marked c.args.pattern.now c.args.perm.now (rows_are before) c.loop-i.i c.neighbours-row.result.now row
-    c.args.parents.now (factor_is before) (omega arith) c.mark_row.new.counts c.mark_row.new.marks (c.mark_row.ensures (row_of joined c.loop-i.i) can) x in
+    c.args.parents.now (factor_is before) (omega arith) c.mark_row.new.counts c.mark_row.new.marks
+    (c.mark_row.ensures (row_of joined c.loop-i.i) can) x in
     (now.0 ∙ ap (λ i. count_by (structure_of joined x) (range_with_len 1 i)) (sym last), now.1)
 
 pub returns-clause-all : goal.returns-clause-all
 returns-clause-all c =
     let same = c.requires.len in
     let last : c.loop-i.i - 1 ≡ length c.args.perm.now = omega arith in
-    λ x. (c.loop-i.invariant x).0 ∙ ap (λ i. count_by (structure_of (renumbered (is_joined c.args.pattern.now) c.args.perm.now) x) (range_with_len 1 i)) last
+    λ x. (c.loop-i.invariant x).0
+    ∙ ap (λ i. count_by (structure_of (renumbered (is_joined c.args.pattern.now) c.args.perm.now) x) (range_with_len 1 i)) last

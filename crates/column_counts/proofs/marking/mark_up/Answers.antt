@@ -10,9 +10,16 @@ way-init c =
     let row = c.requires.row.0 in
     let can = c.requires.row.1 in
     let parent = parent_at c.args.parents.now in
-    let anywhere = closed_anywhere row parent c.args.i c.args.start (slice_index c.args.counts.now) (slice_index c.args.marks.now) can.3 in (
-      can_go_on row parent c.args.i can.0 c.args.start (slice_index c.args.counts.now) (slice_index c.args.marks.now) can.2 anywhere (can.1 c.args.start),
-      λ row can. (closed_anywhere row parent c.args.i c.args.start (slice_index c.args.counts.now) (slice_index c.args.marks.now) can.3, can.2, inr refl, λ x e. e),
+    let anywhere =
+    closed_anywhere row parent c.args.i c.args.start (slice_index c.args.counts.now) (slice_index c.args.marks.now) can.3 in (
+      can_go_on row parent c.args.i can.0 c.args.start (slice_index c.args.counts.now)
+          (slice_index c.args.marks.now) can.2 anywhere (can.1 c.args.start),
+      λ row can. (
+        closed_anywhere row parent c.args.i c.args.start (slice_index c.args.counts.now) (slice_index c.args.marks.now) can.3,
+        can.2,
+        inr refl,
+        λ x e. e,
+      ),
     )
 
 pub way-preserved : goal.way-preserved
@@ -32,13 +39,16 @@ way-preserved c =
     let row = c.requires.row.0 in
     let can = c.requires.row.1 in
     let now = c.way.invariant.1 row can in
-    let next = marked_up row parent c.args.i can.0 z (slice_index c.way.counts) (slice_index c.way.marks) now.1 now.0 c.way-test.true (slice_index counts') (slice_index marks') hc oc hm om in
+    let next = marked_up row parent c.args.i can.0 z (slice_index c.way.counts)
+    (slice_index c.way.marks) now.1 now.0 c.way-test.true (slice_index counts') (slice_index marks') hc oc hm om in
     rw c.at-column.ensures.value (
       can_go_on row parent c.args.i can.0 (parent z) (slice_index counts') (slice_index marks') next.1 next.0 (can.1 (parent z)),
       λ row can.
           let now = c.way.invariant.1 row can in
-          let next = marked_up row parent c.args.i can.0 z (slice_index c.way.counts) (slice_index c.way.marks) now.1 now.0 c.way-test.true (slice_index counts') (slice_index marks') hc oc hm om in
-          let stays : (x : ℕ) → slice_index c.way.marks x ≡ c.args.i → slice_index marks' x ≡ c.args.i = λ x e. elim (cases_eq x z) [ inl q ↦ ap (slice_index marks') q ∙ hm | inr nq ↦ om x nq ∙ e ] in (
+          let next = marked_up row parent c.args.i can.0 z (slice_index c.way.counts)
+          (slice_index c.way.marks) now.1 now.0 c.way-test.true (slice_index counts') (slice_index marks') hc oc hm om in
+          let stays : (x : ℕ) → slice_index c.way.marks x ≡ c.args.i → slice_index marks' x ≡ c.args.i =
+          λ x e. elim (cases_eq x z) [ inl q ↦ ap (slice_index marks') q ∙ hm | inr nq ↦ om x nq ∙ e ] in (
             next.0,
             next.1,
             inl (elim now.2 [ inl e ↦ stays c.args.start e | inr e ↦ ap (slice_index marks') (sym e) ∙ hm ]),

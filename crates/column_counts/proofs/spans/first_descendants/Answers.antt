@@ -9,7 +9,8 @@ use Rattle.column_counts.proofs.spans.first_descendants.Goals.{then-first-index,
 pub loop-j-init : goal.loop-j-init
 loop-j-init c =
     let n = length c.args.parents.now in
-    let all = items_from_collect {E = ℕ} (Ok c.in_ok-firsts.firsts) c.in_ok-firsts.ensures.ran (YieldsList-from_range 0 (c.len.result + 1) (n + 1) refl (omega arith)) in
+    let all = items_from_collect {E = ℕ} (Ok c.in_ok-firsts.firsts) c.in_ok-firsts.ensures.ran
+    (YieldsList-from_range 0 (c.len.result + 1) (n + 1) refl (omega arith)) in
     record {
       len = ap length all ∙ length-range_with_len 0 (n + 1);
       carried = carried_none c.args.parents.now c.len-j-end.ensures.forest c.in_ok-firsts.firsts.items
@@ -40,4 +41,5 @@ loop-j-preserved c =
 pub returns-clause-firsts : goal.returns-clause-firsts
 returns-clause-firsts c =
     let last : c.loop-j.j ≡ length c.args.parents.now + 1 = omega arith in
-    are_firsts c.args.parents.now c.len-j-end.ensures.forest c.loop-j.firsts.items (subst (λ m. AreCarried c.args.parents.now c.loop-j.firsts.items m) last c.loop-j.invariant.carried) c.requires.in_postorder
+    are_firsts c.args.parents.now c.len-j-end.ensures.forest c.loop-j.firsts.items
+    (subst (λ m. AreCarried c.args.parents.now c.loop-j.firsts.items m) last c.loop-j.invariant.carried) c.requires.in_postorder

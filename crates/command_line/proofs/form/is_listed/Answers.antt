@@ -12,4 +12,5 @@ returns c =
     let name = c.args.name.now in
     let groups = c.args.groups.now in
     let has : Bor (List (Bor Text)) → Bool = λ group. list_any (λ listed. bytes_eq listed.now name) group.now in
-    any_from_yields_List has _ _ c.any.result c.any.ensures.ran (YieldsList-from_slice groups cc) (λ x b q k. search (rules, tests)) ∙ any_group name groups
+    any_from_yields_List has _ _ c.any.result c.any.ensures.ran (YieldsList-from_slice groups cc) (λ x b q k. search (rules, tests))
+    ∙ any_group name groups

@@ -7,7 +7,8 @@ use Rattle.elim_tree.proofs.postordering.count_below.Goals as goal
 
 pub loop-j-init : goal.loop-j-init
 loop-j-init c = record {
-  counted = counted_none (length c.args.parents.now) (slice_index c.args.parents.now) (slice_index c.args.below.now) (slice_index c.args.before.now) c.requires.table.some c.requires.none;
+  counted = counted_none (length c.args.parents.now) (slice_index c.args.parents.now)
+      (slice_index c.args.below.now) (slice_index c.args.before.now) c.requires.table.some c.requires.none;
   unused = refl;
 }
 
@@ -15,14 +16,16 @@ pub overflow_add-below : goal.overflow_add-below
 overflow_add-below c =
     let short = table_short c.args.parents.now c.requires.table in
     let fits =
-    room c.loop-j.j (length c.args.parents.now) (slice_index c.args.parents.now) (slice_index c.loop-j.below) (slice_index c.loop-j.before) (table_rising c.args.parents.now c.requires.table) (omega arith) c.loop-j-test.true c.loop-j.invariant.counted in
+    room c.loop-j.j (length c.args.parents.now) (slice_index c.args.parents.now) (slice_index c.loop-j.below) (slice_index c.loop-j.before)
+    (table_rising c.args.parents.now c.requires.table) (omega arith) c.loop-j-test.true c.loop-j.invariant.counted in
     omega arith
 
 pub overflow_add-below-in-loop-j : goal.overflow_add-below-in-loop-j
 overflow_add-below-in-loop-j c =
     let short = table_short c.args.parents.now c.requires.table in
     let fits =
-    room c.loop-j.j (length c.args.parents.now) (slice_index c.args.parents.now) (slice_index c.loop-j.below) (slice_index c.loop-j.before) (table_rising c.args.parents.now c.requires.table) (omega arith) c.loop-j-test.true c.loop-j.invariant.counted in
+    room c.loop-j.j (length c.args.parents.now) (slice_index c.args.parents.now) (slice_index c.loop-j.below) (slice_index c.loop-j.before)
+    (table_rising c.args.parents.now c.requires.table) (omega arith) c.loop-j-test.true c.loop-j.invariant.counted in
     omega arith
 
 pub loop-j-preserved : goal.loop-j-preserved
@@ -33,12 +36,18 @@ loop-j-preserved c =
     let below = c.loop-j.below in
     let before = c.loop-j.before in
     let some : 0 < j = omega arith in
-    let within = inside j n (slice_index c.args.parents.now) (slice_index below) (slice_index before) (table_rising c.args.parents.now c.requires.table) some c.loop-j-test.true c.loop-j.invariant.counted in
+    let within = inside j n (slice_index c.args.parents.now) (slice_index below) (slice_index before)
+    (table_rising c.args.parents.now c.requires.table) some c.loop-j-test.true c.loop-j.invariant.counted in
     let p_in : p < length below = omega arith in
     let j_in : j < length before = omega arith in
     record {
-      counted = subst (λ k. IsCountedTo k n (slice_index c.args.parents.now) (slice_index (slice_set below p (slice_index below p + (slice_index below j + 1)))) (slice_index (slice_set before j (slice_index below p)))) (sym (add-one j))
-          (counted_more j n (slice_index c.args.parents.now) (slice_index below) (slice_index before) (table_rising c.args.parents.now c.requires.table) some c.loop-j-test.true c.loop-j.invariant.counted (slice_index (slice_set below p (slice_index below p + (slice_index below j + 1)))) (slice_index (slice_set before j (slice_index below p)))
+      counted = subst (λ k. IsCountedTo k n (slice_index c.args.parents.now)
+          (slice_index (slice_set below p (slice_index below p + (slice_index below j + 1))))
+          (slice_index (slice_set before j (slice_index below p)))) (sym (add-one j))
+          (counted_more j n (slice_index c.args.parents.now) (slice_index below) (slice_index before)
+          (table_rising c.args.parents.now c.requires.table) some c.loop-j-test.true c.loop-j.invariant.counted
+          (slice_index (slice_set below p (slice_index below p + (slice_index below j + 1))))
+          (slice_index (slice_set before j (slice_index below p)))
           (get_or-set_at below p p (slice_index below p + (slice_index below j + 1)) 0 refl p_in ∙ omega arith)
           (λ x ne. get_or-set_other below p x (slice_index below p + (slice_index below j + 1)) 0 ne)
           (get_or-set_at before j j (slice_index below p) 0 refl j_in)

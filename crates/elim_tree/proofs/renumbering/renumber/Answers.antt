@@ -15,7 +15,8 @@ returns-clause-tree c = λ joined pattern inside e.
     let by_columns = renumbered joined perm in
     c.in_ok-parents.ensures.parents
     ∙ ap (λ (parents : List ℕ). map (λ j. place_of post (parent_at parents j)) post) e
-    ∙ sym (c.reordering.ensures.parents by_columns n post (pattern_renumbered joined perm pattern) (within_renumbered n n joined perm inside c.requires.len)
+    ∙ sym (c.reordering.ensures.parents by_columns n post (pattern_renumbered joined perm pattern)
+    (within_renumbered n n joined perm inside c.requires.len)
     (subst (λ (parents : List ℕ). IsPostorder parents post) e c.requires.post))
     ∙ ap (λ (g : ℕ → ℕ → Bool). parents_of g n) (sym (renumbered_along joined perm post))
     ∙ ap (λ (order : List ℕ). parents_of (renumbered joined order) n) (sym c.in_ok-perm.ensures)

@@ -22,15 +22,20 @@ invariant_of-result c =
     let rows = c.args.pattern.now in
     let order = c.args.perm.now in
     let pattern = c.rows.ensures.pattern in
-    subst IsParentTable (sym (written c.grow.new.parents (drop (length c.grow.new.parents) c.in_ok-table.table.items) c.in_ok-table.table.len (same_len (goal.at.invariant_of-result c).After-grow)))
+    subst IsParentTable (sym (written c.grow.new.parents (drop (length c.grow.new.parents) c.in_ok-table.table.items)
+    c.in_ok-table.table.len (same_len (goal.at.invariant_of-result c).After-grow)))
     (is_table c.parent_is_first.ensures.parent (renumbered (is_joined rows) order) (pattern_by_columns rows order pattern) (length order)
-    (within_by_columns rows order pattern) c.grow.new.parents (long (goal.at.invariant_of-result c).After-grow) c.grow.ensures.firsts (omega (arith, pattern.some, c.requires)) (omega (arith, pattern.few, c.requires)))
+    (within_by_columns rows order pattern) c.grow.new.parents (long (goal.at.invariant_of-result c).After-grow) c.grow.ensures.firsts
+    (omega (arith, pattern.some, c.requires)) (omega (arith, pattern.few, c.requires)))
 
 pub returns : goal.returns
 returns c =
     let rows = c.args.pattern.now in
     let order = c.args.perm.now in
     let pattern = c.rows.ensures.pattern in
-    ap (drop 1) (written c.grow.new.parents (drop (length c.grow.new.parents) c.in_ok-table.table.items) c.in_ok-table.table.len (same_len (goal.at.returns c).After-grow))
-    ∙ are_parents c.parent_is_first.ensures.parent (renumbered (is_joined rows) order) (pattern_by_columns rows order pattern) (length order)
+    ap (drop 1)
+    (written c.grow.new.parents (drop (length c.grow.new.parents) c.in_ok-table.table.items) c.in_ok-table.table.len
+    (same_len (goal.at.returns c).After-grow))
+    ∙ are_parents c.parent_is_first.ensures.parent (renumbered (is_joined rows) order)
+    (pattern_by_columns rows order pattern) (length order)
     (within_by_columns rows order pattern) c.grow.new.parents (long (goal.at.returns c).After-grow) c.grow.ensures.firsts

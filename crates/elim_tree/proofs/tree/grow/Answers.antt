@@ -17,7 +17,8 @@ place_back c = c.places_are_inverse.ensures.place (length c.args.perm.now) c.arg
 row_is : (c : After-neighbours-row) → c.neighbours-row.result.now ≡ neighbours_of c.args.pattern.now (vertex_at c.args.perm.now c.loop-k.k)
 row_is c = c.neighbours-row.ensures ∙ ap (neighbours_of c.args.pattern.now) c.at.ensures.value
 
-vertices_within : (c : After-neighbours-row) → (j : ℕ) → j < length c.neighbours-row.result.now → slice_index c.neighbours-row.result.now j ≤ length c.args.perm.now
+vertices_within : (c : After-neighbours-row) → (j : ℕ) → j < length c.neighbours-row.result.now
+    → slice_index c.neighbours-row.result.now j ≤ length c.args.perm.now
 vertices_within c =
     let rows = c.args.pattern.now in
     let order = c.args.perm.now in
@@ -28,9 +29,11 @@ vertices_within c =
 abbrev forest_is : After-neighbours-row → Rooted
 forest_is c = record { joined = renumbered (is_joined c.args.pattern.now) c.args.perm.now; root = c.loop-k.invariant.0 }
 
-may_take : (c : After-neighbours-row) → CanTake (forest_is c) c.loop-k.k c.neighbours-row.result.now c.args.perm.now c.loop-k.parents c.loop-k.ancestors
+may_take : (c : After-neighbours-row)
+    → CanTake (forest_is c) c.loop-k.k c.neighbours-row.result.now c.args.perm.now c.loop-k.parents c.loop-k.ancestors
 may_take c =
-    can_take c.args.pattern.now c.args.perm.now c.rows-k-end.ensures.pattern c.requires.len (vertex_back c) (place_back c) c.loop-k.k c.loop-k.invariant.0
+    can_take c.args.pattern.now c.args.perm.now c.rows-k-end.ensures.pattern c.requires.len
+    (vertex_back c) (place_back c) c.loop-k.k c.loop-k.invariant.0
     c.loop-k.parents c.loop-k.ancestors c.neighbours-row.result.now (row_is c) c.loop-k.invariant.1
 
 in_turn : (c : After-neighbours-row) → c.is_in_turn-in_turn.result ≡ true → IsInTurn c.neighbours-row.result.now c.args.perm.now
@@ -39,7 +42,8 @@ in_turn c so j lt = c.is_in_turn-in_turn.ensures so (slice_index c.neighbours-ro
 pub loop-k-init : goal.loop-k-init
 loop-k-init c = (
   λ x. x,
-  first_column (renumbered (is_joined c.args.pattern.now) c.args.perm.now) (pattern_by_columns c.args.pattern.now c.args.perm.now c.rows-k-end.ensures.pattern)
+  first_column (renumbered (is_joined c.args.pattern.now) c.args.perm.now)
+      (pattern_by_columns c.args.pattern.now c.args.perm.now c.rows-k-end.ensures.pattern)
       c.args.parents.now c.args.ancestors.now c.requires.clear,
 )
 
@@ -68,10 +72,12 @@ loop-k-preserved c =
     let before = (goal.at.loop-k-preserved c).After-neighbours-row in
     let can = may_take before in
     elim c.if-in_turn.branch [
-      | then-in_turn b ↦ rw (add-one, b.parents-is, b.ancestors-is) (taken rows order c.rows-k-end.ensures.pattern c.requires.len (vertex_back before) (place_back before)
+      | then-in_turn b ↦ rw (add-one, b.parents-is, b.ancestors-is)
+          (taken rows order c.rows-k-end.ensures.pattern c.requires.len (vertex_back before) (place_back before)
           c.loop-k.k c.loop-k.invariant.0 b.take_head.new.parents b.take_head.new.ancestors c.neighbours-row.result.now (row_is before)
           (b.take_head.ensures (forest_is before) order (in_turn before b.if-in_turn.true) can))
-      | else-in_turn b ↦ rw (add-one, b.parents-is, b.ancestors-is) (taken rows order c.rows-k-end.ensures.pattern c.requires.len (vertex_back before) (place_back before)
+      | else-in_turn b ↦ rw (add-one, b.parents-is, b.ancestors-is)
+          (taken rows order c.rows-k-end.ensures.pattern c.requires.len (vertex_back before) (place_back before)
           c.loop-k.k c.loop-k.invariant.0 b.take_row.new.parents b.take_row.new.ancestors c.neighbours-row.result.now (row_is before)
           (b.take_row.ensures (forest_is before) can))
     ]
@@ -79,5 +85,7 @@ loop-k-preserved c =
 pub returns-clause-firsts : goal.returns-clause-firsts
 returns-clause-firsts c =
     let order = c.args.perm.now in
-    grown_firsts c.args.pattern.now order c.rows-k-end.ensures.pattern c.requires.len (c.places_are_inverse.ensures.vertex (length order) order c.keeps.ensures)
-    (c.places_are_inverse.ensures.place (length order) order c.keeps.ensures) c.loop-k.k (omega arith) c.loop-k.invariant.0 c.loop-k.parents c.loop-k.ancestors c.loop-k.invariant.1
+    grown_firsts c.args.pattern.now order c.rows-k-end.ensures.pattern c.requires.len
+    (c.places_are_inverse.ensures.vertex (length order) order c.keeps.ensures)
+    (c.places_are_inverse.ensures.place (length order) order c.keeps.ensures) c.loop-k.k
+    (omega arith) c.loop-k.invariant.0 c.loop-k.parents c.loop-k.ancestors c.loop-k.invariant.1

@@ -5,4 +5,5 @@ use Rattle.elim_tree.specs.Forests.{IsGrown}
 use Rattle.elim_tree.proofs.tree.grow.Given as goal
 
 abbrev pub invariant-loop-k : goal.invariant-loop-k
-invariant-loop-k l = (root : ℕ → ℕ) × IsGrown (renumbered (is_joined l.pattern) l.perm) l.k root (slice_index l.parents) (slice_index l.ancestors)
+invariant-loop-k l =
+    (root : ℕ → ℕ) × IsGrown (renumbered (is_joined l.pattern) l.perm) l.k root (slice_index l.parents) (slice_index l.ancestors)

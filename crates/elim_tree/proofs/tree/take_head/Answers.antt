@@ -11,13 +11,16 @@ link-requires-clause-start c =
     let can = c.requires.start.3 in
     let t = c.loop-column.invariant forest order in_turn can in (
       record { joined = forest.joined; root = t.0 },
-      can_link forest c.args.k c.loop-column.column-index (slice_index c.args.row.now c.loop-column.column-index) c.args.row.now order c.args.parents.now c.args.ancestors.now
-          c.loop-column.parents c.loop-column.ancestors can c.loop-column-test.true t (sym (in_turn c.loop-column.column-index c.loop-column-test.true)) c.if-k-column.false,
+      can_link forest c.args.k c.loop-column.column-index
+          (slice_index c.args.row.now c.loop-column.column-index) c.args.row.now order c.args.parents.now c.args.ancestors.now
+          c.loop-column.parents c.loop-column.ancestors can c.loop-column-test.true t
+          (sym (in_turn c.loop-column.column-index c.loop-column-test.true)) c.if-k-column.false,
     )
 
 pub returns-then-k-column : goal.returns-then-k-column
 returns-then-k-column c = λ forest order in_turn can.
-    head_taken forest c.args.k c.loop-column.column-index c.args.row.now order c.loop-column.parents c.loop-column.ancestors c.requires.rising in_turn
+    head_taken forest c.args.k c.loop-column.column-index c.args.row.now order
+    c.loop-column.parents c.loop-column.ancestors c.requires.rising in_turn
     c.loop-column-test.true c.if-k-column.true (c.loop-column.invariant forest order in_turn can)
 
 pub loop-column-preserved : goal.loop-column-preserved
@@ -34,4 +37,5 @@ loop-column-preserved c = λ forest order in_turn can.
 pub returns : goal.returns
 returns c = λ forest order in_turn can.
     let end : c.loop-column.column-index ≡ length c.args.row.now = omega arith in
-    subst (λ n. IsTaken forest c.args.k c.args.row.now order n c.loop-column.parents c.loop-column.ancestors) end (c.loop-column.invariant forest order in_turn can)
+    subst (λ n. IsTaken forest c.args.k c.args.row.now order n c.loop-column.parents c.loop-column.ancestors) end
+    (c.loop-column.invariant forest order in_turn can)

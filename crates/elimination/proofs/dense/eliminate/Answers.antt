@@ -1,4 +1,5 @@
-use Rattle.std.proofs.Common.{◌≡◌, ◌≢◌, ◌∷◌, [], ◌++◌, ◌&&◌, ◌-◌, ◌<◌, inl, inr, false, ℕ, get_or, take, length, length-set, arith, sym, ap, ap₂, ◌∙◌, subst}
+use Rattle.std.proofs.Common.{◌≡◌, ◌≢◌, ◌∷◌, [], ◌++◌, ◌&&◌, ◌-◌, ◌<◌, inl, inr, false, ℕ, get_or}
+use Rattle.std.proofs.Common.{take, length, length-set, arith, sym, ap, ap₂, ◌∙◌, subst}
 use Rattle.std.specs.List.{filter}
 use Rattle.std.proofs.lemmas.Bool.{cases_eq, both_ways}
 use Rattle.std.proofs.lemmas.List.{with_items_is}

@@ -1,4 +1,5 @@
-use Rattle.std.proofs.Common.{◌≡◌, ◌≢◌, ◌&&◌, inl, inr, ℕ, ◌-◌, ◌+◌, ◌<◌, false, get_or, set, length, length-set, arith, subst, sym, ap, ◌∙◌, IsTrue}
+use Rattle.std.proofs.Common.{◌≡◌, ◌≢◌, ◌&&◌, inl, inr, ℕ, ◌-◌, ◌+◌, ◌<◌, false, get_or, set}
+use Rattle.std.proofs.Common.{length, length-set, arith, subst, sym, ap, ◌∙◌, IsTrue}
 use Rattle.std.specs.List.{count_by, range_with_len}
 use Rattle.std.proofs.lemmas.Bool.{and_right, false_from_ne_true}
 use Rattle.bit_rows.specs.Bits.{bit_in}

@@ -1,4 +1,5 @@
-use Rattle.std.proofs.Common.{◌≡◌, ◌+◌, ◌-◌, ◌++◌, ◌∷◌, [], ℕ, inl, inr, length, get_or, set, arith, sym, subst, ap, ◌∙◌, length-append, length-set}
+use Rattle.std.proofs.Common.{◌≡◌, ◌+◌, ◌-◌, ◌++◌, ◌∷◌, [], ℕ, inl, inr, length, get_or, set}
+use Rattle.std.proofs.Common.{arith, sym, subst, ap, ◌∙◌, length-append, length-set}
 use Rattle.std.proofs.lemmas.Bool.{cases_lt}
 use Rattle.std.proofs.lemmas.List.{length-replicate, get_or-replicate, get_or_past}
 use Rattle.elimination.specs.Quotients.{at}

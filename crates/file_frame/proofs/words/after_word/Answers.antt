@@ -25,7 +25,9 @@ pub returns-in_err-first : goal.returns-in_err-first
 returns-in_err-first c = rw c.from_residual.ensures (sym (none_after c.args.word.now _ c.in_err-first.ensures))
 
 pub returns-then-eq : goal.returns-then-eq
-returns-then-eq c = sym (one_after c.args.word.now c.in_ok-first.first.now c.in_ok-first.second.now _ c.in_ok-first.ensures (sym c.if-eq.ensures))
+returns-then-eq c =
+    sym (one_after c.args.word.now c.in_ok-first.first.now c.in_ok-first.second.now _ c.in_ok-first.ensures (sym c.if-eq.ensures))
 
 pub returns-else-eq : goal.returns-else-eq
-returns-else-eq c = sym (another_after c.args.word.now c.in_ok-first.first.now c.in_ok-first.second.now _ c.in_ok-first.ensures (sym c.if-eq.ensures))
+returns-else-eq c =
+    sym (another_after c.args.word.now c.in_ok-first.first.now c.in_ok-first.second.now _ c.in_ok-first.ensures (sym c.if-eq.ensures))

@@ -13,9 +13,11 @@ returns-in-Err-Cycle c =
     let task = c.in-Err-Cycle.task in
     let told = rw c.in-Err-Cycle.field-0-is at c.in-Err-Cycle.ensures.refused in
     let fault : IsGraphFault (record { tasks = s.tasks.items; arcs = s.arcs.items }) (faults.Cycle task) =
-    subst (λ (arcs : List Arc). IsGraphFault (record { tasks = s.tasks.items; arcs = arcs }) (faults.Cycle task)) c.deref.ensures.value told in
+    subst (λ (arcs : List Arc). IsGraphFault (record { tasks = s.tasks.items; arcs = arcs }) (faults.Cycle task))
+    c.deref.ensures.value told in
     refuses-cycle c.args.bytes.now s.tasks.items s.arcs.items s.lines.items c.in_ok-tasks.ensures.stated task c.fault_of.result
-    (c.fault_of.ensures ∙ ap (λ (lines : List ℕ). fault_at (get_or lines (task - 1) 0) kinds.Cycle) c.deref-in-Err-Cycle.ensures.value) fault
+    (c.fault_of.ensures ∙ ap (λ (lines : List ℕ). fault_at (get_or lines (task - 1) 0) kinds.Cycle) c.deref-in-Err-Cycle.ensures.value)
+    fault
 
 pub returns-in-Err-Share : goal.returns-in-Err-Share
 returns-in-Err-Share c =
@@ -23,6 +25,8 @@ returns-in-Err-Share c =
     let task = c.in-Err-Share.task in
     let told = rw c.in-Err-Share.field-0-is at c.in-Err-Share.ensures.refused in
     let fault : IsGraphFault (record { tasks = s.tasks.items; arcs = s.arcs.items }) (faults.Share task) =
-    subst (λ (arcs : List Arc). IsGraphFault (record { tasks = s.tasks.items; arcs = arcs }) (faults.Share task)) c.deref.ensures.value told in
+    subst (λ (arcs : List Arc). IsGraphFault (record { tasks = s.tasks.items; arcs = arcs }) (faults.Share task))
+    c.deref.ensures.value told in
     refuses-share c.args.bytes.now s.tasks.items s.arcs.items s.lines.items c.in_ok-tasks.ensures.stated task c.fault_of-in-Err-Share.result
-    (c.fault_of-in-Err-Share.ensures ∙ ap (λ (lines : List ℕ). fault_at (get_or lines (task - 1) 0) kinds.Share) c.deref-in-Err-Share.ensures.value) fault
+    (c.fault_of-in-Err-Share.ensures
+    ∙ ap (λ (lines : List ℕ). fault_at (get_or lines (task - 1) 0) kinds.Share) c.deref-in-Err-Share.ensures.value) fault

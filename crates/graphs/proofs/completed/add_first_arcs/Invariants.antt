@@ -4,4 +4,5 @@ use Rattle.graphs.specs.Graph.{arc_between}
 use Rattle.graphs.proofs.completed.add_first_arcs.Given as goal
 
 abbrev pub invariant-loop-v : goal.invariant-loop-v
-invariant-loop-v l = l.arcs.items ≡ l.initial.arcs.items ++ map (λ v. arc_between 0 v) (filter (λ v. eqb (get_or l.counts v 0) 0) (range_with_len 1 (l.v - 1)))
+invariant-loop-v l = l.arcs.items
+    ≡ l.initial.arcs.items ++ map (λ v. arc_between 0 v) (filter (λ v. eqb (get_or l.counts v 0) 0) (range_with_len 1 (l.v - 1)))

@@ -12,9 +12,11 @@ loop-v-preserved c =
     let place = c.loop-v.v in
     elim c.if-counts-v-eq0.branch [
       | then-counts-v-eq0+in_ok-push w ↦ ap (λ (v : Vec Arc Global). v.items) w.arcs-is ∙ w.in_ok-push.ensures.items
-          ∙ added-yes (λ u. arc_between u 0) (λ u. eqb (get_or counts u 0) 0) c.args.arcs.now.items c.loop-v.arcs.items place c.loop-v.auto.v c.loop-v.invariant
+          ∙ added-yes (λ u. arc_between u 0)
+          (λ u. eqb (get_or counts u 0) 0) c.args.arcs.now.items c.loop-v.arcs.items place c.loop-v.auto.v c.loop-v.invariant
           (eq-eqb (get_or counts place 0) 0 w.if-counts-v-eq0.true)
       | else-counts-v-eq0 w ↦ ap (λ (v : Vec Arc Global). v.items) w.arcs-is
-          ∙ added-no (λ u. arc_between u 0) (λ u. eqb (get_or counts u 0) 0) c.args.arcs.now.items c.loop-v.arcs.items place c.loop-v.auto.v c.loop-v.invariant
+          ∙ added-no (λ u. arc_between u 0)
+          (λ u. eqb (get_or counts u 0) 0) c.args.arcs.now.items c.loop-v.arcs.items place c.loop-v.auto.v c.loop-v.invariant
           (ne_eqb (get_or counts place 0) 0 w.if-counts-v-eq0.false)
     ]

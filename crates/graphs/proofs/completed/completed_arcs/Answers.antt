@@ -17,7 +17,8 @@ count_ends-requires-2-clause-within c =
 
 pub returns : goal.returns
 returns c =
-    all-added c.args.count c.args.arcs.now c.in_ok-all.all.items c.add_first_arcs.new.arcs.items c.add_last_arcs.new.arcs.items c.deref-3.result.now c.deref-4.result.now
+    all-added c.args.count c.args.arcs.now c.in_ok-all.all.items c.add_first_arcs.new.arcs.items
+    c.add_last_arcs.new.arcs.items c.deref-3.result.now c.deref-4.result.now
     c.in_ok-all.ensures.items
     (λ v. ap (λ (xs : List ℕ). get_or xs v 0) c.deref-3.ensures.value ∙ c.in_ok-heads.ensures.counts v
     ∙ ap (count_by (λ e. eqb e v)) (c.deref.ensures.value ∙ c.in_ok-heads_of.ensures))

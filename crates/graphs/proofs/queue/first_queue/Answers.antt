@@ -17,11 +17,13 @@ loop-v-preserved c =
     elim c.if-waits-v-eq0.branch [
       | then-waits-v-eq0+in_ok-push w ↦ subst (λ (queue : List ℕ). IsFirst n arcs waits queue (v + 1))
           (sym (ap (λ (q : Vec ℕ Global). q.items) w.queue-is ∙ w.in_ok-push.ensures.items))
-          (first-push n arcs waits c.loop-v.queue.items v c.loop-v.invariant w.if-waits-v-eq0.true c.loop-v.auto.v (c.requires.waits v (omega (arith, c.loop-v-test.true))))
+          (first-push n arcs waits c.loop-v.queue.items v c.loop-v.invariant w.if-waits-v-eq0.true c.loop-v.auto.v
+          (c.requires.waits v (omega (arith, c.loop-v-test.true))))
       | else-waits-v-eq0 w ↦ rw w.queue-is (first-skip n arcs waits c.loop-v.queue.items v c.loop-v.invariant w.if-waits-v-eq0.false)
     ]
 
 pub returns : goal.returns
 returns c =
-    first-taken c.args.count c.args.arcs.now c.args.waits.now c.loop-v.queue.items c.loop-v.v (omega (arith, c.loop-v-test.false, c.loop-v.auto.v-end)) c.loop-v.invariant
+    first-taken c.args.count c.args.arcs.now c.args.waits.now c.loop-v.queue.items c.loop-v.v
+    (omega (arith, c.loop-v-test.false, c.loop-v.auto.v-end)) c.loop-v.invariant
     c.requires.len c.requires.waits

@@ -14,5 +14,6 @@ group-requires-clause-below c =
 pub returns-clause-rows : goal.returns-clause-rows
 returns-clause-rows c = λ u le.
     let arcs = c.args.arcs.now in
-    let is = c.in_ok-rows.ensures.rows u (omega (arith, le)) ∙ ap (λ (keys : List ℕ). numbers_with keys 0 u) (c.deref.ensures.value ∙ c.in_ok-tails.ensures) in
+    let is = c.in_ok-rows.ensures.rows u (omega (arith, le))
+    ∙ ap (λ (keys : List ℕ). numbers_with keys 0 u) (c.deref.ensures.value ∙ c.in_ok-tails.ensures) in
     subst (λ (row : List ℕ). IsArcRow arcs row u) (sym is) (row-is arcs u (c.numbers_law.ensures.each (map from_of arcs) 0 u))

@@ -19,4 +19,5 @@ take_next-requires-clause-row c =
 pub returns : goal.returns
 returns c =
     let l = c.loop-at in
-    judged c.args.count c.args.arcs.now l.waits l.queue.items l.at l.invariant (omega (arith, c.loop-at-test.false, c.len.ensures, l.queue.ok)) c.requires.within
+    judged c.args.count c.args.arcs.now l.waits l.queue.items l.at l.invariant
+    (omega (arith, c.loop-at-test.false, c.len.ensures, l.queue.ok)) c.requires.within

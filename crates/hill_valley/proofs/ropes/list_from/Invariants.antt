@@ -6,7 +6,8 @@ use Rattle.hill_valley.proofs.ropes.list_from.Given as goal
 
 abbrev pub invariant-loop-top : goal.invariant-loop-top
 invariant-loop-top l = record {
-  told : l.list.items ++ pending (λ i. get_or (lists_of l.joins) i []) l.todo.items ≡ list_of_piece (λ i. get_or (lists_of l.joins) i []) l.fn.piece;
+  told : l.list.items ++ pending (λ i. get_or (lists_of l.joins) i []) l.todo.items
+      ≡ list_of_piece (λ i. get_or (lists_of l.joins) i []) l.fn.piece;
   below : AllBelow (length l.joins) l.todo.items;
 }
 

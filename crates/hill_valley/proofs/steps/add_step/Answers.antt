@@ -12,7 +12,8 @@ returns c =
     c.in_ok-push.ensures.items ∙ elim c.if-ends_at.branch [
       | then-ends_at w ↦
           ap (λ (l : List Step). l ++ step c.args.bound c.args.level ∷ []) (ap (λ v. v.items) w.steps-is)
-          ∙ replaced c.args.bound c.args.level c.args.steps.now.items w.pop.new.self.items w.pop.result w.pop.ensures.items (λ some. w.pop.ensures.variant.1 (omega (arith, some, size, c.deref.ensures.len))) (test ∙ sym w.if-ends_at.ensures)
+          ∙ replaced c.args.bound c.args.level c.args.steps.now.items w.pop.new.self.items w.pop.result w.pop.ensures.items
+          (λ some. w.pop.ensures.variant.1 (omega (arith, some, size, c.deref.ensures.len))) (test ∙ sym w.if-ends_at.ensures)
       | else-ends_at w ↦
           ap (λ (l : List Step). l ++ step c.args.bound c.args.level ∷ []) (ap (λ v. v.items) w.steps-is)
           ∙ added c.args.bound c.args.level c.args.steps.now.items (test ∙ sym w.if-ends_at.ensures)

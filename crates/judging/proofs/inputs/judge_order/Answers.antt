@@ -20,8 +20,10 @@ returns-in_err-numbers-in-Order-clause-judged g c =
     let e = c.in_err-numbers-in-Order.field-0.0 in
     let source = order_named c.in-Order.name.now in
     passed c.from_residual.result _ _ e c.from_residual.ensures.1
-    (subst (λ (s : OrderSource). IsStop told before after (source_file (source_view s) ∷ []) (IsRefusedSource (source_view s)) e) (sym c.in-Order.is)
-    (alone_stop told before after (source_file source) (λ (text : List ℕ). IsRefusedFile (codes "order") order_file_word (RefusesOrder text) text)
+    (subst (λ (s : OrderSource). IsStop told before after (source_file (source_view s) ∷ []) (IsRefusedSource (source_view s)) e)
+    (sym c.in-Order.is)
+    (alone_stop told before after (source_file source)
+    (λ (text : List ℕ). IsRefusedFile (codes "order") order_file_word (RefusesOrder text) text)
     (IsRefusedSource source) (λ text answer refused. λ earlier. refused) e c.in_err-numbers-in-Order.ensures.judged))
 
 pub returns-in_err-plan-in-Plan-clause-judged : goal.returns-in_err-plan-in-Plan-clause-judged
@@ -32,6 +34,7 @@ returns-in_err-plan-in-Plan-clause-judged g c =
     let e = c.in_err-plan-in-Plan.field-0.0 in
     let source = plan_named c.in-Plan.name.now in
     passed c.from_residual-in_err-plan-in-Plan.result _ _ e c.from_residual-in_err-plan-in-Plan.ensures.1
-    (subst (λ (s : OrderSource). IsStop told before after (source_file (source_view s) ∷ []) (IsRefusedSource (source_view s)) e) (sym c.in-Plan.is)
+    (subst (λ (s : OrderSource). IsStop told before after (source_file (source_view s) ∷ []) (IsRefusedSource (source_view s)) e)
+    (sym c.in-Plan.is)
     (alone_stop told before after (source_file source) (λ (text : List ℕ). IsRefusedFile (codes "plan") plan_word (RefusesPlan text) text)
     (IsRefusedSource source) (λ text answer refused. λ earlier. refused) e c.in_err-plan-in-Plan.ensures.judged))

@@ -20,9 +20,11 @@ returns-in_err-order-clause-judged g c =
     let source = source_view c.args.source in
     passed c.from_residual-in_err-order.result _ _ e c.from_residual-in_err-order.ensures.1
     (stop_after (g.F.Files.bytes_of c.args.files.now) (g.F.Files.bytes_of c.judge_input.new.files) c.in_ok-problem.ensures.same
-    (g.F.Files.faults_of c.args.files.now) (g.F.Files.faults_of c.judge_input.new.files) (g.F.Files.faults_of c.judge_order.new.files) c.in_ok-problem.ensures.later
+    (g.F.Files.faults_of c.args.files.now) (g.F.Files.faults_of c.judge_input.new.files)
+    (g.F.Files.faults_of c.judge_order.new.files) c.in_ok-problem.ensures.later
     (input_files input) (λ texts are. problem_accepted input texts c.in_ok-problem.problem (c.in_ok-problem.ensures.judged texts are))
-    (source_file source ∷ []) (omega arith) (IsRefusedSource source) (λ one two answer are more refused. source_refused source one two answer refused) e
+    (source_file source ∷ []) (omega arith) (IsRefusedSource source)
+    (λ one two answer are more refused. source_refused source one two answer refused) e
     c.in_err-order.ensures.judged)
 
 pub returns-clause-judged : goal.returns-clause-judged

@@ -23,10 +23,13 @@ returns-in-Perm-clause-judged g c =
     let rows = c.args.pattern.now in
     let n = c.rows-n.result in
     let name = c.in-Perm.name.now in
-    subst (λ (o : Ordering). AreJudged told before after (ordering_files (ordering_view o)) (IsOrderOf (ordering_view o) rows) (IsRefusedOrder (ordering_view o) rows) c.judge.result)
+    subst (λ (o : Ordering). AreJudged told before after (ordering_files (ordering_view o))
+    (IsOrderOf (ordering_view o) rows) (IsRefusedOrder (ordering_view o) rows) c.judge.result)
     (sym c.in-Perm.is)
     (alone_judged told before after (record { role = perm_file; name = name }) (λ (text order : List ℕ). IsPermFile n text order)
-    (λ (text : List ℕ). IsRefusedFile (codes "perm") perm_word (RefusesPerm n text) text) (IsOrderOf (perm_named name) rows) (IsRefusedOrder (perm_named name) rows)
+    (λ (text : List ℕ). IsRefusedFile (codes "perm") perm_word (RefusesPerm n text) text)
+    (IsOrderOf (perm_named name) rows) (IsRefusedOrder (perm_named name) rows)
     (λ text order is. subst (λ (k : ℕ). IsPermFile k text order) c.rows-n.ensures.value is)
-    (λ text answer refused. subst (λ (k : ℕ). IsRefusedFile (codes "perm") perm_word (RefusesPerm k text) text answer) c.rows-n.ensures.value refused)
+    (λ text answer refused.
+    subst (λ (k : ℕ). IsRefusedFile (codes "perm") perm_word (RefusesPerm k text) text answer) c.rows-n.ensures.value refused)
     c.judge.result c.judge.ensures.judged)

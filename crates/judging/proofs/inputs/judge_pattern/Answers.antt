@@ -20,7 +20,8 @@ returns-in_err-pattern-clause-judged g c =
     let e = c.in_err-pattern.field-0.0 in
     passed c.from_residual.result _ _ e c.from_residual.ensures.1
     (stop_before told before after (matrix_at m.ordering m.name ∷ []) (ordering_files m.ordering) e
-    (alone_stop told before after (matrix_at m.ordering m.name) (λ (text : List ℕ). IsRefusedFile (codes "matrix") word_of (RefusesPattern text) text)
+    (alone_stop told before after (matrix_at m.ordering m.name)
+    (λ (text : List ℕ). IsRefusedFile (codes "matrix") word_of (RefusesPattern text) text)
     (IsFirstRefusal (matrix_at m.ordering m.name ∷ []) []) (λ text answer refused. inl (inl refused)) e c.in_err-pattern.ensures.judged))
 
 pub returns-in_err-order-clause-judged : goal.returns-in_err-order-clause-judged

@@ -16,9 +16,11 @@ returns-in_err-perm-clause-judged g c = λ role.
     let after = g.F.Files.faults_of c.judge.new.files in
     let e = c.in_err-perm.field-0.0 in
     passed c.from_residual.result _ _ e c.from_residual.ensures.1
-    (subst (λ (name : Option (List ℕ)). IsStop told before after (priority_files role name) (IsRefusedRanking c.args.n) e) (sym (ap (option_map (λ s. s.now)) c.in-Some.is))
+    (subst (λ (name : Option (List ℕ)). IsStop told before after (priority_files role name) (IsRefusedRanking c.args.n) e)
+    (sym (ap (option_map (λ s. s.now)) c.in-Some.is))
     (alone_stop told before after (record { role = role; name = c.in-Some.name.now })
-    (λ (text : List ℕ). IsRefusedFile (codes "priority") perm_word (RefusesPerm c.args.n text) text) (IsRefusedRanking c.args.n) (λ text answer refused. refused) e c.in_err-perm.ensures.judged))
+    (λ (text : List ℕ). IsRefusedFile (codes "priority") perm_word (RefusesPerm c.args.n text) text)
+    (IsRefusedRanking c.args.n) (λ text answer refused. refused) e c.in_err-perm.ensures.judged))
 
 pub returns-clause-each : goal.returns-clause-each
 returns-clause-each g c =

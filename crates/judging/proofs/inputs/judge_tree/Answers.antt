@@ -16,7 +16,9 @@ returns-in-Tree-clause-judged g c =
     let before = g.F.Files.faults_of c.args.files.now in
     let after = g.F.Files.faults_of c.judge.new.files in
     let file : NamedFile = record { role = tree_file; name = c.in-Tree.name.now } in
-    subst (λ (input : TreeInput). AreJudged told before after (tree_input_files (tree_input_view input)) (IsTreeOf (tree_input_view input)) (IsFirstRefusal (tree_input_files (tree_input_view input)) []) c.judge.result)
+    subst (λ (input : TreeInput). AreJudged told before after (tree_input_files (tree_input_view input))
+    (IsTreeOf (tree_input_view input)) (IsFirstRefusal (tree_input_files (tree_input_view input)) []) c.judge.result)
     (sym c.in-Tree.is)
-    (alone_judged told before after file IsTreeFile (λ (text : List ℕ). IsRefusedFile (codes "tree") word_of (RefusesTree text) text) (IsTreeOf (tree_named c.in-Tree.name.now)) (IsFirstRefusal (file ∷ []) [])
+    (alone_judged told before after file IsTreeFile (λ (text : List ℕ). IsRefusedFile (codes "tree") word_of (RefusesTree text) text)
+    (IsTreeOf (tree_named c.in-Tree.name.now)) (IsFirstRefusal (file ∷ []) [])
     (λ text x is. is) (λ text answer refused. inl refused) c.judge.result c.judge.ensures.judged)

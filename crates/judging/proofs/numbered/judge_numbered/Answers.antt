@@ -18,6 +18,8 @@ returns-in_err-terms-in-Workflow-clause-judged g c =
     let e = c.in_err-terms-in-Workflow.field-0.0 in
     let file : NamedFile = record { role = workflow_file; name = c.in-Workflow.name.now } in
     passed c.from_residual-in_err-terms-in-Workflow.result _ _ e c.from_residual-in_err-terms-in-Workflow.ensures.1
-    (subst (λ (input : Input). IsStop told before after (input_files (input_view input)) (IsFirstRefusal (input_files (input_view input)) []) e) (sym c.in-Workflow.is)
-    (alone_stop told before after file (λ (text : List ℕ). IsRefusedFile (codes "workflow") workflow_word (RefusesWorkflow text) text) (IsFirstRefusal (file ∷ []) [])
+    (subst (λ (input : Input). IsStop told before after (input_files (input_view input))
+    (IsFirstRefusal (input_files (input_view input)) []) e) (sym c.in-Workflow.is)
+    (alone_stop told before after file
+    (λ (text : List ℕ). IsRefusedFile (codes "workflow") workflow_word (RefusesWorkflow text) text) (IsFirstRefusal (file ∷ []) [])
     (λ text answer refused. inl refused) e c.in_err-terms-in-Workflow.ensures.judged))

@@ -8,5 +8,6 @@ loop-number-preserved c =
     record {
       text = token_more numbers i c.loop-number-test.true c.from.result c.from.ensures c.args.report.now c.loop-number.report c.num.new.self
           c.loop-number.invariant.text c.in_ok-num.ensures.ok;
-      tokens = tokens_more numbers i c.loop-number-test.true c.from.result c.from.ensures c.loop-number.invariant.tokens c.num.ensures.token;
+      tokens =
+          tokens_more numbers i c.loop-number-test.true c.from.result c.from.ensures c.loop-number.invariant.tokens c.num.ensures.token;
     }

@@ -12,8 +12,12 @@ loop-done-preserved c =
     let terms = c.args.terms.now in
     let done = c.loop-done.done in
     elim c.match-at.branch [
-      | in-Task w ↦ w.count-is ∙ one_more terms done (Hold 0) c.at.result _ _ _ _ (omega (arith, c.loop-done-test.true, c.len-done-end.ensures.value)) (c.at.ensures (Hold 0)) w.in-Task.is c.loop-done.invariant
-      | in_default w ↦ w.count-is ∙ no_more terms done (Hold 0) c.at.result _ (omega (arith, c.loop-done-test.true, c.len-done-end.ensures.value)) (c.at.ensures (Hold 0)) w.in_default.not-Task c.loop-done.invariant
+      | in-Task w ↦ w.count-is
+          ∙ one_more terms done (Hold 0) c.at.result _ _ _ _ (omega (arith, c.loop-done-test.true, c.len-done-end.ensures.value))
+          (c.at.ensures (Hold 0)) w.in-Task.is c.loop-done.invariant
+      | in_default w ↦ w.count-is
+          ∙ no_more terms done (Hold 0) c.at.result _ (omega (arith, c.loop-done-test.true, c.len-done-end.ensures.value))
+          (c.at.ensures (Hold 0)) w.in_default.not-Task c.loop-done.invariant
     ]
 
 pub returns : goal.returns

@@ -13,4 +13,5 @@ returns-clause-some c = λ n bytes.
     ]
 
 pub returns-clause-one_refusal : goal.returns-clause-one_refusal
-returns-clause-one_refusal c = λ n bytes. c.exactly_one.ensures.one_refusal (perm_format n) (rows_of_bytes Commented bytes) (past_of_bytes bytes)
+returns-clause-one_refusal c =
+    λ n bytes. c.exactly_one.ensures.one_refusal (perm_format n) (rows_of_bytes Commented bytes) (past_of_bytes bytes)

@@ -1,4 +1,9 @@
-use Rattle.memplan_c.proofs.Steps.{[], ◌∷◌, refl, ap, proved, full_share, id⊢, ftrue, fat, Val, vunit, tables, ‵, raw, prop, ◌⊛◌, some, later, ◌$◌, ◌∵◌, !, qed, done, move, drop, use1, use2, split, join, feq_i, feq_l, pick, await, regoal, suffices, group, enter, of_opd, unit_lit, load, look, stop, no_more, and_then, returns, alloc_all, pass_all, free_all, look_at, get, through, sets, lands_as, unit, yes, shows, Is, Ptr, RawPtr, block_ptr, lies_at, in_a_block, rawptr_vals, rawptr_Tells, plain, nothing, only, peeks, calls_at, lasts, on_entry, triple_of, Stays, walk_of, stay_dropped, Goes-dropped, ends_at, framed, WpFn}
+use Rattle.memplan_c.proofs.Steps.{[], ◌∷◌, refl, ap, proved, full_share, id⊢, ftrue, fat, Val, vunit, tables, ‵, raw, prop, ◌⊛◌, some}
+use Rattle.memplan_c.proofs.Steps.{later, ◌$◌, ◌∵◌, !, qed, done, move, drop, use1, use2, split, join, feq_i, feq_l, pick, await, regoal}
+use Rattle.memplan_c.proofs.Steps.{suffices, group, enter, of_opd, unit_lit, load, look, stop, no_more, and_then, returns, alloc_all}
+use Rattle.memplan_c.proofs.Steps.{pass_all, free_all, look_at, get, through, sets, lands_as, unit, yes, shows, Is, Ptr, RawPtr, block_ptr}
+use Rattle.memplan_c.proofs.Steps.{lies_at, in_a_block, rawptr_vals, rawptr_Tells, plain, nothing, only, peeks, calls_at, lasts, on_entry}
+use Rattle.memplan_c.proofs.Steps.{triple_of, Stays, walk_of, stay_dropped, Goes-dropped, ends_at, framed, WpFn}
 use base.Fml.{froom}
 use borrow.Table.OneValue.{part_out}
 use denote.Memory.{lone}
@@ -24,7 +29,8 @@ memplan_core_end_spec 𝓤 𝓛 𝓜 𝓡 wired =
     qed 𝓛 (raw (on_entry 𝓛 f.signature κs qs a (y a.0).0.4) ∷ ‵ (lies_at R full_share a.0 held) ∷ []) ∵ drop ! $
     in_a_block ! a.0 (λ p. lies_at R full_share p held) (id⊢ 𝓤 _) (λ b o e.
     regoal ! (λ p. prop (WpFn 𝓤 𝓛.H 𝓣.C 𝓣.Λ code.function (rawptr_vals p) (W.post (y p)))) e refl $
-    use1 𝓛 (some (λ (w : Val). ‵ (fat full_share τ b o w) ⊛ ‵ (R.own_val held (w ∷ [])))) (part_out 𝓛 R refl full_share held b o) $ pick ! (λ w. split ! $ move ! (1 ∷ []) $
+    use1 𝓛 (some (λ (w : Val). ‵ (fat full_share τ b o w) ⊛ ‵ (R.own_val held (w ∷ [])))) (part_out 𝓛 R refl full_share held b o) $
+    pick ! (λ w. split ! $ move ! (1 ∷ []) $
     peeks ! R (Is R) (shows 𝓛 R) held (w ∷ []) (λ is.
     let t = ((laws.lawful 𝓛).typed held (w ∷ []) is).0 in
     -- [what the counter owns; its cell]

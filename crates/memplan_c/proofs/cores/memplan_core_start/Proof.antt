@@ -1,4 +1,11 @@
-use Rattle.memplan_c.proofs.Steps.{◌≡◌, ℕ, [], ◌∷◌, ◌++◌, refl, w32, MutBor, proved, full_share, id⊢, ftrue, flft, fres, flent, named, fact, tables, ‵, raw, prop, ◌⊛◌, some, later, ◌$◌, ◌∵◌, !, qed, done, move, keep, drop, use1, use2, use3, split, join, fsplit, pick, await, rewrite, regoal, suffices, frame, group, enter, of_opd, addr, stop, no_more, and_then, returns, alloc_all, pass_all, free_all, look_at, get, through, sets, lands_as, lft_new, lft_end, u32, yes, shows, Is, lends_ref, ref_back, mem, uint_Lawful, uint_Makes, uint_vals, uint_Tells, Ptr, RawPtr, block_ptr, lies_at, in_a_block, rawptr_vals, rawptr_Tells, MutRef, mut_vals, plain, nothing, owned, heard, peeks, calls_at, lasts, on_entry, triple_of, Stays, walk_of, says, stay_dropped, Goes-dropped, ends_at, framed, WpFn, Body}
+use Rattle.memplan_c.proofs.Steps.{◌≡◌, ℕ, [], ◌∷◌, ◌++◌, refl, w32, MutBor, proved, full_share, id⊢, ftrue, flft, fres, flent, named}
+use Rattle.memplan_c.proofs.Steps.{fact, tables, ‵, raw, prop, ◌⊛◌, some, later, ◌$◌, ◌∵◌, !, qed, done, move, keep, drop, use1, use2}
+use Rattle.memplan_c.proofs.Steps.{use3, split, join, fsplit, pick, await, rewrite, regoal, suffices, frame, group, enter, of_opd}
+use Rattle.memplan_c.proofs.Steps.{addr, stop, no_more, and_then, returns, alloc_all, pass_all, free_all, look_at, get, through, sets}
+use Rattle.memplan_c.proofs.Steps.{lands_as, lft_new, lft_end, u32, yes, shows, Is, lends_ref, ref_back, mem, uint_Lawful, uint_Makes}
+use Rattle.memplan_c.proofs.Steps.{uint_vals, uint_Tells, Ptr, RawPtr, block_ptr, lies_at, in_a_block, rawptr_vals, rawptr_Tells, MutRef}
+use Rattle.memplan_c.proofs.Steps.{mut_vals, plain, nothing, owned, heard, peeks, calls_at, lasts, on_entry, triple_of, Stays, walk_of}
+use Rattle.memplan_c.proofs.Steps.{says, stay_dropped, Goes-dropped, ends_at, framed, WpFn, Body}
 use Rattle.activation.specs.declared.events.EventKind.TheVariants.{Start}
 use Rattle.c_calls.specs.Slots.{SlotValue, stepped, IsStarted}
 use Rattle.c_calls.specs.contracts.slot.Slot.{the_row as R}
@@ -14,7 +21,8 @@ stayed = (stay_dropped _ yes, (stay_dropped _ yes, tt))
 pub memplan_core_start_spec : {M : Type 1} → statement M
 memplan_core_start_spec 𝓤 𝓛 𝓜 𝓡 wired =
     let c = f.clauses 𝓛 𝓜.mem 𝓡.returns in let W = walk_of 𝓛 f.ended stayed c in let 𝓣 = tables 𝓤 𝓛.H 𝓜 𝓡 𝓡.env in
-    proved 𝓛 f.ended stayed c 𝓜 𝓡 (Goes-dropped 𝓛 0 (plain (λ _. RawPtr)) yes (λ κs x w. refl), (Goes-dropped 𝓛 0 (plain (λ _. u32)) yes (λ κs x w. refl), tt))
+    proved 𝓛 f.ended stayed c 𝓜 𝓡
+    (Goes-dropped 𝓛 0 (plain (λ _. RawPtr)) yes (λ κs x w. refl), (Goes-dropped 𝓛 0 (plain (λ _. u32)) yes (λ κs x w. refl), tt))
     f.Key.name code.function (code.unfolded 𝓤 𝓛.H 𝓜 𝓡 wired)
     (λ κs. (rawptr_vals, (uint_vals w32, tt))) (λ κs. (rawptr_Tells, (uint_Tells w32, tt))) (λ κs qs bounds a held are.
     let p0 = a.1.0 in
@@ -27,25 +35,35 @@ memplan_core_start_spec 𝓤 𝓛 𝓜 𝓡 wired =
     sets ! (addr ! (through ! refl (stop !))) refl (tt, tt) $
     -- [the value; the locals]
     lft_new ! tt (λ α. move ! (1 ∷ []) $
-    use1 𝓛 (later (some (λ (γ : ℕ). ‵ ((MutRef (named 0) (α ∷ []) R).own_val (record { ref_ptr = (b, o); ghost_name = γ; now = held }) (mut_vals (record { ref_ptr = (b, o); ghost_name = γ; now = held }))) ⊛ ‵ (flent (α ∷ []) (Body (mem R) b o γ)))))
+    use1 𝓛 (later (some (λ (γ : ℕ). ‵ ((MutRef (named 0) (α ∷ []) R).own_val (record {
+      ref_ptr = (b, o);
+      ghost_name = γ;
+      now = held;
+    }) (mut_vals (record { ref_ptr = (b, o); ghost_name = γ; now = held }))) ⊛ ‵ (flent (α ∷ []) (Body (mem R) b o γ)))))
     (lends_ref 𝓛 R (named 0) (α ∷ []) held b o) $ await ! tt $ pick ! (λ γ. split ! $
     -- [the loan; what the lender keeps; the token]
     let G = triple_of 𝓛 g.signature (g.spec 𝓛 𝓜.mem 𝓡.returns) in
     let r : MutBor SlotValue = record { ref_ptr = (b, o); ghost_name = γ; now = held } in
     let z : G.Ghost = (((α ∷ [], tt), (full_share, tt), tt, (r, (p0, tt)), (mut_vals r, (uint_vals w32 p0, tt))), tt) in
-    nothing ! $ owned ! u32 (Is u32) (uint_Makes 𝓛 w32) p0 _ (refl, are.1.0.1) $ join ! $ move ! (1 ∷ 0 ∷ []) $ join ! $ nothing ! $ move ! (3 ∷ 0 ∷ []) $ join ! $ join ! $
+    nothing ! $ owned ! u32 (Is u32) (uint_Makes 𝓛 w32) p0 _ (refl, are.1.0.1) $ join ! $
+    move ! (1 ∷ 0 ∷ []) $ join ! $ nothing ! $ move ! (3 ∷ 0 ∷ []) $ join ! $ join ! $
     nothing ! $ move ! (1 ∷ 0 ∷ []) $ use2 𝓛 (raw (G.pre z)) (id⊢ 𝓤 _) $
     calls_at ! (framed 𝓤 𝓛.H 𝓜 (tables 𝓤 𝓛.H 𝓜 𝓡 𝓡.env)) G (met 𝓤 𝓛 𝓜 𝓡 (code.calls-c_calls::slot::start 𝓡.env wired)) z
     (and_then ! (get ! refl) (and_then ! (get ! refl) (no_more !))) (λ v.
     use1 𝓛 (later (some (λ (u : ℕ). ((‵ (flft (α ∷ []) full_share) ⊛ ‵ ftrue) ⊛ ‵ (u32.own_val u (v ∷ []))) ⊛
-    some (λ (ws : SlotValue × (Unit {0} × Unit {0})). ‵ (lasts g.ended z.0.0 z.0.3 ws) ⊛ raw (fact 𝓤 ((ws.0 ≡ stepped Start held p0 u) × (IsStarted held p0 u))))))) (id⊢ 𝓤 _) $
+    some (λ (ws : SlotValue × (Unit {0} × Unit {0})). ‵ (lasts g.ended z.0.0 z.0.3 ws)
+    ⊛ raw (fact 𝓤 ((ws.0 ≡ stepped Start held p0 u) × (IsStarted held p0 u)))))))
+    (id⊢ 𝓤 _) $
     await ! tt $ pick ! (λ u. split ! $ split ! $ split ! $ lft_end ! tt $ move ! (2 ∷ []) $
     peeks ! u32 (Is u32) (shows 𝓛 u32) u (v ∷ []) (λ is. lands_as ! refl refl ((uint_Lawful 𝓛 w32).typed u _ is).0 $
     -- [the result; the end of α; nothing; the clauses; what the lender keeps]
     move ! (3 ∷ []) $ pick ! (λ ws. split ! $ move ! (1 ∷ []) $ heard ! _ (λ facts. fsplit ! $ fsplit ! $
     rewrite ! 0 (λ (m : SlotValue). ‵ (fres γ (R.coded.code m))) facts.0 refl $
     -- [the last value; its borrow; nothing; the result; the end of α; nothing; what the lender keeps]
-    move ! (4 ∷ 6 ∷ 0 ∷ []) $ use3 𝓛 (later (‵ (lies_at R full_share (block_ptr b o) (stepped Start held p0 u)))) (ref_back 𝓛 R (α ∷ []) γ (stepped Start held p0 u) b o) $ await ! tt $
+    move ! (4 ∷ 6 ∷ 0 ∷ []) $
+    use3 𝓛 (later (‵ (lies_at R full_share (block_ptr b o) (stepped Start held p0 u))))
+    (ref_back 𝓛 R (α ∷ []) γ (stepped Start held p0 u) b o) $
+    await ! tt $
     returns ! (look_at ! 0 refl) $ free_all ! refl $ keep ! (3 ∷ 0 ∷ []) $
     suffices ! _ (ends_at 𝓛 f.ended stayed c (y (block_ptr b o)) v u (tt, (tt, tt)) (tt, (tt, tt))) $
     nothing ! $ nothing ! $ join ! $ nothing ! $ join ! $ nothing ! $ group ! 3 $ frame ! $ says ! facts.1 $ done !))))))))))

@@ -14,7 +14,13 @@ overflow_add-sum c =
     let row = c.row-i-items.result.now in
     let row_is = c.row-i-items.ensures ∙ c.requires.inputs.rows_are c.args.task c.requires.task.1 in
     let whole = row-le system items c.items-items.ensures.value c.args.task c.requires.task.0 row row_is in
-    omega (arith, whole, sum_by_more_le (size_at items) row c.loop-i.i-index 0 c.loop-i-test.true, c.loop-i.invariant.summed, items_total system items c.items-items.ensures.value c.items-items.ensures.system)
+    omega (
+      arith,
+      whole,
+      sum_by_more_le (size_at items) row c.loop-i.i-index 0 c.loop-i-test.true,
+      c.loop-i.invariant.summed,
+      items_total system items c.items-items.ensures.value c.items-items.ensures.system,
+    )
 
 pub returns-clause-ready : goal.returns-clause-ready
 returns-clause-ready c =
@@ -22,7 +28,8 @@ returns-clause-ready c =
     let row_is = c.row-i-items.ensures ∙ c.requires.inputs.rows_are c.args.task c.requires.task.1 in
     let done = is_marked c.args.ran.now in
     is_ready-row c.args.system.now c.items-items.result.now c.items-items.ensures.value c.args.task c.requires.task.0 row row_is done
-    ∙ ap (list_all (is_produced_at done c.items-items.result.now)) (sym (take_all c.loop-i.i-index row c.loop-i-test.false)) ∙ c.loop-i.invariant.produced
+    ∙ ap (list_all (is_produced_at done c.items-items.result.now)) (sym (take_all c.loop-i.i-index row c.loop-i-test.false))
+    ∙ c.loop-i.invariant.produced
 
 pub returns-clause-sum : goal.returns-clause-sum
 returns-clause-sum c =

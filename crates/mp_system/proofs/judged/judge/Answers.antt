@@ -19,5 +19,7 @@ returns c =
     let tasks = c.args.tasks.now in
     let items = c.args.items.now in
     let fact = HasShare (system_given tasks items) in
-    let shares : Each (length tasks) fact = subst (λ (o : Option ℕ). MatchOption o (Each (length tasks) fact) (λ v. IsFirstWithout (length tasks) fact v)) c.in_default.is c.in_ok-task.ensures in
+    let shares : Each (length tasks) fact =
+    subst (λ (o : Option ℕ). MatchOption o (Each (length tasks) fact) (λ v. IsFirstWithout (length tasks) fact v))
+    c.in_default.is c.in_ok-task.ensures in
     are_system tasks items c.in_ok-judge_each.ensures (omega arith) shares

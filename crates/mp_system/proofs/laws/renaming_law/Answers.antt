@@ -2,7 +2,8 @@ use Rattle.mp_system.proofs.RenamingOrders.{traversal_named, traversal_own, each
 use Rattle.mp_system.proofs.laws.renaming_law.Goals as goal
 
 pub returns-clause-traversal : goal.returns-clause-traversal
-returns-clause-traversal c = λ names own named order same. (traversal_named names own named same order, traversal_own names own named same order)
+returns-clause-traversal c =
+    λ names own named order same. (traversal_named names own named same order, traversal_own names own named same order)
 
 pub returns-clause-each : goal.returns-clause-each
 returns-clause-each c = λ names own named order same traversal. each_traversal names own named same order traversal

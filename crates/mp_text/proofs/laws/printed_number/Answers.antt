@@ -1,4 +1,5 @@
-use Rattle.mp_text.proofs.ReportLemmas.{is_token-decimal, number_of-decimal, numbers_of-decimals, is_token-signed_decimal, signed_of-signed_decimal, is_counted-decimal}
+use Rattle.mp_text.proofs.ReportLemmas.{is_token-decimal, number_of-decimal, numbers_of-decimals, is_token-signed_decimal}
+use Rattle.mp_text.proofs.ReportLemmas.{signed_of-signed_decimal, is_counted-decimal}
 use Rattle.mp_text.proofs.laws.printed_number.Goals as goal
 
 pub returns : goal.returns

@@ -14,11 +14,14 @@ loop-byte-init c =
     let whole = take_all (length token - len) (drop len token) (omega (arith, length-drop len token)) in
     record {
       fits = omega arith;
-      rest = ap (number_from c.leading_number-leading.result.0) whole ∙ sym (c.leading_number-leading.ensures.spells (drop len token)) ∙ ap (number_from 0) (take-append-drop len token)
+      rest = ap (number_from c.leading_number-leading.result.0) whole
+          ∙ sym (c.leading_number-leading.ensures.spells (drop len token)) ∙ ap (number_from 0) (take-append-drop len token)
           ∙ sym (number_of-filled token (search (rules, c.if-is_empty.false)));
     }
 
 pub returns : goal.returns
 returns c =
-    let items = take (length c.args.token.now - c.leading_number-leading.result.1) (drop c.leading_number-leading.result.1 c.args.token.now) in
-    sym (number_from-nil c.loop-byte.value c.loop-byte.invariant.fits) ∙ sym (at_drop_all (number_from c.loop-byte.value) items c.loop-byte.byte-index (omega arith)) ∙ c.loop-byte.invariant.rest
+    let items =
+    take (length c.args.token.now - c.leading_number-leading.result.1) (drop c.leading_number-leading.result.1 c.args.token.now) in
+    sym (number_from-nil c.loop-byte.value c.loop-byte.invariant.fits)
+    ∙ sym (at_drop_all (number_from c.loop-byte.value) items c.loop-byte.byte-index (omega arith)) ∙ c.loop-byte.invariant.rest

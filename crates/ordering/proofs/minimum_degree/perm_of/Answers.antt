@@ -9,4 +9,5 @@ push-requires-clause-fresh c =
     let so_far = ap (λ (s : PermState). s.numbers) c.loop-vertex.invariant in
     let perm = c.requires in
     let len = perm.len in
-    subst (λ numbers. times numbers (get_or list c.loop-vertex.vertex-index 0) ≡ 0) (sym so_far) (fresh_at c.args.n list perm c.loop-vertex.vertex-index (omega (arith, c.loop-vertex-test.true)))
+    subst (λ numbers. times numbers (get_or list c.loop-vertex.vertex-index 0) ≡ 0) (sym so_far)
+    (fresh_at c.args.n list perm c.loop-vertex.vertex-index (omega (arith, c.loop-vertex-test.true)))

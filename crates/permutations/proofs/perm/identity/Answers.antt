@@ -12,7 +12,8 @@ numbers c =
 
 pub invariant_of-result : goal.invariant_of-result
 invariant_of-result c =
-    tables_identity c.args.n c.push.new.self.items c.in_ok-places.places.items c.ranges.n.fits (numbers c) (each_same _ _ c.in_ok-places.ensures.cases.0 ∙ numbers c)
+    tables_identity c.args.n c.push.new.self.items c.in_ok-places.places.items c.ranges.n.fits
+    (numbers c) (each_same _ _ c.in_ok-places.ensures.cases.0 ∙ numbers c)
 
 pub returns-clause-order : goal.returns-clause-order
 returns-clause-order c = ap (drop 1) (numbers c)

@@ -6,4 +6,5 @@ pub loop-seg-init : goal.loop-seg-init
 loop-seg-init c = record { keeping = record { told = refl; room = c.requires } }
 
 pub returns : goal.returns
-returns c = keeping_ends c.args.segments.now c.loop-seg.seg-index (record { up = 0; net = 0 }) c.args.over c.loop-seg.level _ c.loop-seg.invariant.keeping c.loop-seg-test.false
+returns c = keeping_ends c.args.segments.now c.loop-seg.seg-index
+    (record { up = 0; net = 0 }) c.args.over c.loop-seg.level _ c.loop-seg.invariant.keeping c.loop-seg-test.false

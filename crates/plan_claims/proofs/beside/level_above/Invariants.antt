@@ -5,5 +5,6 @@ use Rattle.plan_claims.proofs.beside.level_above.Given as goal
 
 abbrev pub invariant-loop-seg : goal.invariant-loop-seg
 invariant-loop-seg l = record {
-  keeping : Keeping l.segments l.seg-index (record { up = 0; net = 0 }) l.over l.level (kept_level l.over l.least (segments_listed l.segments));
+  keeping :
+      Keeping l.segments l.seg-index (record { up = 0; net = 0 }) l.over l.level (kept_level l.over l.least (segments_listed l.segments));
 }

@@ -8,7 +8,8 @@ none = record { least = 0; front_up = 0; back_up = 0; read = false; front = 0; b
 
 pub level_or-level-requires : goal.level_or-level-requires
 level_or-level-requires c = record {
-  place = place_here c.args.parts.now c.loop-part.part-index c.args.gone.now c.loop-part.at c.loop-part.invariant.places (get_or c.args.parts.now c.loop-part.part-index none) c.loop-part-test.true
+  place = place_here c.args.parts.now c.loop-part.part-index c.args.gone.now c.loop-part.at c.loop-part.invariant.places
+      (get_or c.args.parts.now c.loop-part.part-index none) c.loop-part-test.true
       (any_default c.args.parts.now c.loop-part.part-index none c.loop-part-test.true);
 }
 
@@ -17,7 +18,11 @@ loop-part-preserved c =
     let x : PartNote = get_or c.args.parts.now c.loop-part.part-index none in
     let here = any_default c.args.parts.now c.loop-part.part-index none c.loop-part-test.true in
     record {
-      places = places_on c.args.parts.now c.loop-part.part-index c.args.gone.now c.loop-part.at c.loop-part.invariant.places x c.loop-part-test.true here _ (let e = c.count_of-at.ensures in omega arith);
-      told = each_goes c.args.parts.now c.loop-part.part-index c.args.gone.now c.loop-part.at c.loop-part.invariant.places x c.loop-part-test.true here c.args.wanted.now c.args.over c.args.rest c.loop-part.todo.items _ _ c.level_or-level.result _ c.want_at.result
-          c.loop-part.invariant.told c.level_or-level.ensures c.want_at.ensures c.in_ok-push.ensures.items (let e = c.count_of-at.ensures in omega arith);
+      places = places_on c.args.parts.now c.loop-part.part-index c.args.gone.now c.loop-part.at
+          c.loop-part.invariant.places x c.loop-part-test.true here _ (let e = c.count_of-at.ensures in omega arith);
+      told = each_goes c.args.parts.now c.loop-part.part-index c.args.gone.now c.loop-part.at
+          c.loop-part.invariant.places x c.loop-part-test.true here c.args.wanted.now c.args.over
+          c.args.rest c.loop-part.todo.items _ _ c.level_or-level.result _ c.want_at.result
+          c.loop-part.invariant.told c.level_or-level.ensures c.want_at.ensures c.in_ok-push.ensures.items
+          (let e = c.count_of-at.ensures in omega arith);
     }

@@ -8,5 +8,6 @@ want_whole-root-requires c = record { part = (c.requires.part.0, c.requires.part
 pub claims_from-requires : goal.claims_from-requires
 claims_from-requires c = record {
   notes = c.requires.notes;
-  root = whole_shows c.below.ensures (term_of c.args.terms.now) _ c.want_whole-root.result c.requires.part.2 (c.want_whole-root.ensures.shows _ c.requires.part.1);
+  root = whole_shows c.below.ensures (term_of c.args.terms.now) _ c.want_whole-root.result c.requires.part.2
+      (c.want_whole-root.ensures.shows _ c.requires.part.1);
 }

@@ -9,7 +9,8 @@ use Rattle.plans.proofs.parts.are_claims.Goals as goal
 abbrev Are : ℕ → List Claim → Type 0
 Are n claims = All IsClaimWithin claims × RiseFrom n claims
 
-decided : (n : ℕ) (claim : Claim) (rest : List Claim) → IsClaimWithin claim × (n < claim.position) → Are n (claim ∷ rest) ↔ Are claim.position rest
+decided : (n : ℕ) (claim : Claim) (rest : List Claim)
+    → IsClaimWithin claim × (n < claim.position) → Are n (claim ∷ rest) ↔ Are claim.position rest
 decided n claim rest next =
     (λ are. (All-tail IsClaimWithin claim rest are.0, are.1.1), λ are. (All-cons IsClaimWithin claim rest next.0 are.0, (next.1, are.1)))
 

@@ -28,5 +28,6 @@ listing-requires-clause-listed c =
 
 pub returns : goal.returns
 returns c =
-    let best = subst (λ (ns : List Node). IsBest ns c.in_ok-order.order.items c.in_ok-peak.peak) c.nodes-nodes.ensures.value (c.in_ok-peak.ensures.best c.in_ok-order.order.items c.in_ok-order.ensures) in
+    let best = subst (λ (ns : List Node). IsBest ns c.in_ok-order.order.items c.in_ok-peak.peak) c.nodes-nodes.ensures.value
+    (c.in_ok-peak.ensures.best c.in_ok-order.order.items c.in_ok-order.ensures) in
     record { best = best.best; postorder = best.postorder; peak = best.peak_is; least = best.least }

@@ -14,5 +14,6 @@ walk-requires-clause-listed c =
 pub returns : goal.returns
 returns c =
     let l = c.requires.listed in
-    let is : c.reverse.new.self.items ≡ l.0 = c.reverse.ensures.items ∙ ap reverse (c.in_ok-order.ensures (reverse l.0) l.2) ∙ reverse-reverse l.0 in
+    let is : c.reverse.new.self.items ≡ l.0 =
+    c.reverse.ensures.items ∙ ap reverse (c.in_ok-order.ensures (reverse l.0) l.2) ∙ reverse-reverse l.0 in
     subst (λ (o : List ℕ). ListedAll (row_at c.args.rows.now) (row_at c.args.rows.now 0) o) (sym is) l.1

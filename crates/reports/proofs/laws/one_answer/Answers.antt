@@ -6,12 +6,17 @@ use Rattle.reports.proofs.OneReport.{Reports, one_report, report_accepted, one_f
 use Rattle.reports.proofs.laws.one_answer.Goals as goal
 
 module _ (r : Reports)
-    (not_both : (role : FileRole) (earlier : List (List ℕ)) (text : List ℕ) (answer : Answer) → HasValue role earlier text → IsRefusedInRole role earlier text answer → ⊥)
-    (one_refusal : (role : FileRole) (earlier : List (List ℕ)) (text : List ℕ) (a b : Answer) → IsRefusedInRole role earlier text a → IsRefusedInRole role earlier text b → a ≡ b) where
-  one : (request : Request) (texts : List (List ℕ)) (a b : Answer) → IsInRange request → IsDecided request → IsAnswer request texts a → IsAnswer request texts b → a ≡ b
+    (not_both : (role : FileRole) (earlier : List (List ℕ)) (text : List ℕ) (answer : Answer)
+    → HasValue role earlier text → IsRefusedInRole role earlier text answer → ⊥)
+    (one_refusal : (role : FileRole) (earlier : List (List ℕ)) (text : List ℕ) (a b : Answer)
+    → IsRefusedInRole role earlier text a → IsRefusedInRole role earlier text b → a ≡ b) where
+  one : (request : Request) (texts : List (List ℕ)) (a b : Answer) → IsInRange request
+      → IsDecided request → IsAnswer request texts a → IsAnswer request texts b → a ≡ b
   one request texts a b range decided (inl is) (inl is') = one_first_refusal not_both one_refusal (files_of request) [] texts a b is is'
-  one request texts a b range decided (inl is) (inr is') = absurd (none_refused not_both one_refusal (files_of request) [] texts a (report_accepted r request texts b is') is)
-  one request texts a b range decided (inr is) (inl is') = absurd (none_refused not_both one_refusal (files_of request) [] texts b (report_accepted r request texts a is) is')
+  one request texts a b range decided (inl is) (inr is') =
+      absurd (none_refused not_both one_refusal (files_of request) [] texts a (report_accepted r request texts b is') is)
+  one request texts a b range decided (inr is) (inl is') =
+      absurd (none_refused not_both one_refusal (files_of request) [] texts b (report_accepted r request texts a is) is')
   one request texts a b range decided (inr is) (inr is') = one_report r request texts a b range decided is is'
 
 pub returns : goal.returns

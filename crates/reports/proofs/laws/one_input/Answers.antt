@@ -20,4 +20,10 @@ returns c =
       denotes = c.terms_law.ensures.denotes;
       term_system = c.terms_law.ensures.system;
     } in
-    record { matrix = one_matrix parts; tree = one_tree parts; system = one_system parts; term = one_list_of_positions parts; numbered = one_numbered_term parts }
+    record {
+      matrix = one_matrix parts;
+      tree = one_tree parts;
+      system = one_system parts;
+      term = one_list_of_positions parts;
+      numbered = one_numbered_term parts;
+    }

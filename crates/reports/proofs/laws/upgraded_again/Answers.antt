@@ -5,7 +5,8 @@ use Rattle.reports.proofs.UpgradeLemmas.{printed_again}
 use Rattle.reports.proofs.laws.upgraded_again.Goals as goal
 
 pub returns-clause-same : goal.returns-clause-same
-returns-clause-same c = λ u texts name answer is done. inr (printed_again u texts name answer done (c.what_answers_say.ensures (upgrade u) texts answer tt is done))
+returns-clause-same c = λ u texts name answer is done.
+    inr (printed_again u texts name answer done (c.what_answers_say.ensures (upgrade u) texts answer tt is done))
 
 pub returns-clause-only : goal.returns-clause-only
 returns-clause-only c = λ u texts name one two is done other.

@@ -16,25 +16,32 @@ use Rattle.reports.proofs.laws.what_answers_say.Goals as goal
 -- the report of an answer that is done
 done_report : (request : Request) (texts : List (List ℕ)) (answer : Answer) → IsReport request texts answer → answer.status ≡ Done
     → IsReport request texts (done_answer answer.text)
-done_report request texts answer report done = subst (IsReport request texts) (ap (λ s. record { status = s; text = answer.text }) done) report
+done_report request texts answer report done =
+    subst (IsReport request texts) (ap (λ s. record { status = s; text = answer.text }) done) report
 
 pub returns : goal.returns
 returns c (replay input source) texts answer possible is = λ done.
     done_report (replay input source) texts answer (report_when_done (replay input source) texts answer is done) done
-returns c (tree matrix) texts answer possible is = λ done. done_report (tree matrix) texts answer (report_when_done (tree matrix) texts answer is done) done
-returns c (post input) texts answer possible is = λ done. done_report (post input) texts answer (report_when_done (post input) texts answer is done) done
+returns c (tree matrix) texts answer possible is =
+    λ done. done_report (tree matrix) texts answer (report_when_done (tree matrix) texts answer is done) done
+returns c (post input) texts answer possible is =
+    λ done. done_report (post input) texts answer (report_when_done (post input) texts answer is done) done
 returns c (check input plan workers) texts answer possible is = λ done.
-    certified (λ i ts nodes of_tree. (c.one_input.ensures.tree i ts nodes nodes of_tree of_tree).1) c.tree_term.ensures.terms c.tree_term.ensures.system
+    certified (λ i ts nodes of_tree. (c.one_input.ensures.tree i ts nodes nodes of_tree of_tree).1)
+    c.tree_term.ensures.terms c.tree_term.ensures.system
     c.read_law.ensures c.terms_law.ensures.denotes c.accepted_law.ensures.own c.accepted_law.ensures.renamed
     input texts answer (report_when_done (check input plan workers) texts answer is done) done
 returns c (planning input format) texts answer possible is = λ done.
-    best (λ i ts nodes of_tree. (c.one_input.ensures.tree i ts nodes nodes of_tree of_tree).1) c.tree_term.ensures.terms c.tree_term.ensures.system
-    c.read_law.ensures c.terms_law.ensures.denotes c.accepted_law.ensures.own c.accepted_law.ensures.renamed c.printed_plan.ensures.text c.printed_length.ensures.text
+    best (λ i ts nodes of_tree. (c.one_input.ensures.tree i ts nodes nodes of_tree of_tree).1)
+    c.tree_term.ensures.terms c.tree_term.ensures.system
+    c.read_law.ensures c.terms_law.ensures.denotes c.accepted_law.ensures.own
+    c.accepted_law.ensures.renamed c.printed_plan.ensures.text c.printed_length.ensures.text
     input format texts answer (report_when_done (planning input format) texts answer is done)
 returns c (simulate input source simulation) texts answer possible is = λ done.
     simulated c.one_input.ensures.system c.schedule_law.ensures.legal c.schedule_law.ensures.each_once c.schedule_law.ensures.within
     input source simulation texts answer possible (report_when_done (simulate input source simulation) texts answer is done) done
-returns c (demo made) texts answer possible is = λ done. c.one_demo.ensures.shown made answer possible (report_when_done (demo made) texts answer is done)
+returns c (demo made) texts answer possible is =
+    λ done. c.one_demo.ensures.shown made answer possible (report_when_done (demo made) texts answer is done)
 returns c (upgrade file) texts answer possible is = λ done.
     upgraded c.one_upgrade.ensures.file file texts answer (report_when_done (upgrade file) texts answer is done)
 returns c (spill input source bound) texts answer possible is = λ done.
@@ -43,7 +50,8 @@ returns c (segments input) texts answer possible is = λ done.
     reached c.one_staircase.ensures.each (λ i ts ps ks of_term. (c.one_input.ensures.numbered i ts ps ps ks ks of_term of_term).2)
     input texts answer (report_when_done (segments input) texts answer is done) done
 returns c (fronts matrix bound workers) texts answer possible is = λ done.
-    c.one_fronts.ensures.factored matrix bound workers texts answer (report_when_done (fronts matrix bound workers) texts answer is done) done
+    c.one_fronts.ensures.factored matrix bound workers texts answer
+    (report_when_done (fronts matrix bound workers) texts answer is done) done
 returns c (reduce name) texts answer possible is = (
   λ done. reduced (record {
     read = c.read_law-2.ensures;
@@ -52,9 +60,11 @@ returns c (reduce name) texts answer possible is = (
     peak = c.named_term_law.ensures.peak;
     least = c.named_term_law.ensures.least;
     reads = λ graph positions names is terms has. c.named_workflow.ensures.reads positions names terms
-        (c.names_law.ensures.few graph names (term_of positions) is has) (c.names_law.ensures.within graph names (term_of positions) is has);
+        (c.names_law.ensures.few graph names (term_of positions) is has)
+        (c.names_law.ensures.within graph names (term_of positions) is has);
     short = λ graph positions names is terms has. c.named_workflow.ensures.length positions names terms
-        (c.names_law.ensures.few graph names (term_of positions) is has) (c.names_law.ensures.within graph names (term_of positions) is has);
+        (c.names_law.ensures.few graph names (term_of positions) is has)
+        (c.names_law.ensures.within graph names (term_of positions) is has);
   }) texts answer (report_when_done (reduce name) texts answer is done) done,
   λ of_rest. irreducible texts answer (report_of_rest (reduce name) texts answer is of_rest) of_rest,
 )

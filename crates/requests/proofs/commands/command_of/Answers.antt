@@ -16,10 +16,12 @@ IsNone word (command ∷ others) = (word ≡ command.name → ⊥) × IsNone wor
 none_named : (word : List ℕ) (table : List Command) → IsNone word table → named word table ≡ None
 none_named word [] none = refl
 none_named word (command ∷ others) none =
-    rw (untrue (bytes_eq command.name word) (λ same. none.0 (sym ((bytes_eq-Decides command.name word).0 same)))) (none_named word others none.1)
+    rw (untrue (bytes_eq command.name word) (λ same. none.0 (sym ((bytes_eq-Decides command.name word).0 same))))
+    (none_named word others none.1)
 
 pub returns-in_default-clause-value : goal.returns-in_default-clause-value
 returns-in_default-clause-value c =
     let none : IsNone c.command.result.now commands = assumption (c.in_default) in
     let word = sym (ap (λ name. named name commands) c.command.ensures) in
-    sym (ap (option_and_then (λ (command : Command). command.asks c.args.line.now.options)) (word ∙ none_named c.command.result.now commands none))
+    sym (ap (option_and_then (λ (command : Command). command.asks c.args.line.now.options))
+    (word ∙ none_named c.command.result.now commands none))

@@ -21,7 +21,8 @@ returns c = λ x.
     let first = c.args.first in
     let own : has c.push.new.self.items x ≡ eqb first x =
     ap (λ z. has z x) (c.in_ok-push.ensures.items ∙ ap (λ z. z ++ first ∷ []) c.new-rows.ensures.items) ∙ has_push [] first x in
-    let row = ap (λ z. list_any (is_later c.args.perm.now first x) z) (c.neighbours-neighbours.ensures ∙ ap (neighbours_of c.args.pattern.now) c.at.ensures.value) in
+    let row = ap (λ z. list_any (is_later c.args.perm.now first x) z)
+    (c.neighbours-neighbours.ensures ∙ ap (neighbours_of c.args.pattern.now) c.at.ensures.value) in
     c.in_ok-add_lists.ensures x
     ∙ ap (λ b. b || in_lists c.args.lists.now x)
     (c.in_ok-add_later.ensures x ∙ ap (λ b. b || list_any (is_later c.args.perm.now first x) c.neighbours-neighbours.result.now) own

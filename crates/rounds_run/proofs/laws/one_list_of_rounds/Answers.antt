@@ -12,7 +12,8 @@ same_starts events one two first second =
     let in_two = omega_lt events one two first second k lt in
     get_or_default one k d [] lt ∙ first.each k ∙ sym (second.each k) ∙ sym (get_or_default two k d [] in_two))
   where
-    omega_lt : (events : List Event) (one two : List (List ℕ)) → AreStarts events one → AreStarts events two → (k : ℕ) → k < length one → k < length two
+    omega_lt : (events : List Event) (one two : List (List ℕ)) → AreStarts events one
+        → AreStarts events two → (k : ℕ) → k < length one → k < length two
     omega_lt events one two first second k lt = omega (arith, first.many, second.many, lt)
 
 pub returns-clause-rounds : goal.returns-clause-rounds

@@ -11,7 +11,8 @@ use Rattle.rounds_run.proofs.PlanLemmas.{holds_each}
 use Rattle.rounds_run.proofs.RowTrees.{row_tree, row_traversal}
 use Rattle.rounds_run.proofs.laws.rounds_of_assembly.Goals as goal
 
-module _ (systems : (nodes : List Node) → IsTree nodes → IsSystem (system_of_nodes nodes)) (assembly : AssemblyTree) (is : IsAssembly assembly) where
+module _ (systems : (nodes : List Node) → IsTree nodes → IsSystem (system_of_nodes nodes))
+    (assembly : AssemblyTree) (is : IsAssembly assembly) where
   is_setting : (bound workers : ℕ) → row_peak assembly.supers ≤ bound → 1 ≤ workers → IsSetting (row_setting assembly.supers bound workers)
   is_setting bound workers within some = record {
     system = systems (map row_node assembly.supers) (row_tree assembly is);
@@ -21,17 +22,20 @@ module _ (systems : (nodes : List Node) → IsTree nodes → IsSystem (system_of
   }
 
   holds : HoldsEach (row_system assembly.supers) (row_order assembly.supers)
-  holds = holds_each (row_system assembly.supers) (row_system assembly.supers) (row_order assembly.supers) (row_order assembly.supers) refl refl (row_traversal assembly is)
+  holds = holds_each (row_system assembly.supers) (row_system assembly.supers)
+      (row_order assembly.supers) (row_order assembly.supers) refl refl (row_traversal assembly is)
 
 pub returns-clause-rounds : goal.returns-clause-rounds
 returns-clause-rounds c = λ assembly bound workers one two used more is within some first second.
     c.one_list_of_rounds.ensures.rounds (row_setting assembly.supers bound workers) one two used more
-    (is_setting c.tree_system.ensures.system assembly is bound workers within some) (holds c.tree_system.ensures.system assembly is) first second
+    (is_setting c.tree_system.ensures.system assembly is bound workers within some)
+    (holds c.tree_system.ensures.system assembly is) first second
 
 pub returns-clause-used : goal.returns-clause-used
 returns-clause-used c = λ assembly bound workers one two used more is within some first second.
     c.one_list_of_rounds.ensures.used (row_setting assembly.supers bound workers) one two used more
-    (is_setting c.tree_system.ensures.system assembly is bound workers within some) (holds c.tree_system.ensures.system assembly is) first second
+    (is_setting c.tree_system.ensures.system assembly is bound workers within some)
+    (holds c.tree_system.ensures.system assembly is) first second
 
 pub returns-clause-within : goal.returns-clause-within
 returns-clause-within c = λ setting rounds used are.

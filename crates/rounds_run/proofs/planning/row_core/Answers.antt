@@ -5,5 +5,6 @@ use Rattle.rounds_run.proofs.planning.row_core.Goals as goal
 
 pub unreachable-requires : goal.unreachable-requires
 unreachable-requires c =
-    let refused = subst (IsCoreRefusal c.in_ok-system.system c.args.order.now c.args.bound) c.in-Err-Order.field-0-is c.in-Err-Order.ensures.refused in
+    let refused = subst (IsCoreRefusal c.in_ok-system.system c.args.order.now c.args.bound)
+    c.in-Err-Order.field-0-is c.in-Err-Order.ensures.refused in
     refused.1 (subst (λ s. IsTraversal s c.args.order.now) (sym c.in_ok-system.ensures) c.requires.traversal)

@@ -20,7 +20,8 @@ run_rounds-requires-clause-supers g c = λ κs lives.
       pattern = c.renumbered_pattern.ensures.pattern c.args.pattern.now c.args.numbered.now.perm c.keeps.ensures;
       inside = c.renumbered_pattern.ensures.within c.args.pattern.now c.args.numbered.now.perm c.keeps.ensures;
       nodes = c.args.assembly.now.nodes;
-      supernodes = subst (λ z. AreSupernodes (parents_of joined n) (counts_of joined n) (record { supers = z; nodes = c.args.assembly.now.nodes }))
+      supernodes =
+          subst (λ z. AreSupernodes (parents_of joined n) (counts_of joined n) (record { supers = z; nodes = c.args.assembly.now.nodes }))
           (sym c.supers.ensures.value) own;
     }
 

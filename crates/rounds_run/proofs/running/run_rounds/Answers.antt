@@ -12,20 +12,36 @@ round_at g c =
     c.as_slice-round.ensures
 
 jobs_are : (g : _) (c : In_ok-jobs g)
-    → AreJobsOf (record { joined = renumbered (is_joined c.args.pattern.now) c.args.perm.now; order = length c.args.perm.now; supers = c.args.supers.now })
+    → AreJobsOf (record {
+      joined = renumbered (is_joined c.args.pattern.now) c.args.perm.now;
+      order = length c.args.perm.now;
+      supers = c.args.supers.now;
+    })
     c.as_slice-round.result.now c.in_ok-jobs.jobs.items
 jobs_are g c =
-    let f : Factor = record { joined = renumbered (is_joined c.args.pattern.now) c.args.perm.now; order = length c.args.perm.now; supers = c.args.supers.now } in
+    let f : Factor = record {
+      joined = renumbered (is_joined c.args.pattern.now) c.args.perm.now;
+      order = length c.args.perm.now;
+      supers = c.args.supers.now;
+    } in
     c.in_ok-jobs.ensures.jobs f (in_rounds c.args.rounds.now c.loop-list.list-index) c.requires.supers refl
     (round_due c.args.supers.now c.args.rounds.now c.loop-list.list-index c.as_slice-round.result.now c.requires.rounds (round_at g c))
     c.loop-list.invariant
 
 held_then : (g : _) (c : In_ok-jobs g)
-    → IsHeld (record { joined = renumbered (is_joined c.args.pattern.now) c.args.perm.now; order = length c.args.perm.now; supers = c.args.supers.now })
+    → IsHeld (record {
+      joined = renumbered (is_joined c.args.pattern.now) c.args.perm.now;
+      order = length c.args.perm.now;
+      supers = c.args.supers.now;
+    })
     (or_in (in_rounds c.args.rounds.now c.loop-list.list-index) c.as_slice-round.result.now)
     (in_rounds c.args.rounds.now c.loop-list.list-index) c.jobs.new.self
 held_then g c =
-    let f : Factor = record { joined = renumbered (is_joined c.args.pattern.now) c.args.perm.now; order = length c.args.perm.now; supers = c.args.supers.now } in
+    let f : Factor = record {
+      joined = renumbered (is_joined c.args.pattern.now) c.args.perm.now;
+      order = length c.args.perm.now;
+      supers = c.args.supers.now;
+    } in
     c.in_ok-jobs.ensures.held f (in_rounds c.args.rounds.now c.loop-list.list-index) refl c.loop-list.invariant
 
 pub make_fronts-requires-clause-jobs : goal.make_fronts-requires-clause-jobs
@@ -51,14 +67,23 @@ keep_all-requires-clause-made g c =
 pub loop-list-preserved : goal.loop-list-preserved
 loop-list-preserved g c =
     let before = (goal.at.loop-list-preserved g c).In_ok-jobs in
-    let f : Factor = record { joined = renumbered (is_joined c.args.pattern.now) c.args.perm.now; order = length c.args.perm.now; supers = c.args.supers.now } in
+    let f : Factor = record {
+      joined = renumbered (is_joined c.args.pattern.now) c.args.perm.now;
+      order = length c.args.perm.now;
+      supers = c.args.supers.now;
+    } in
     let round = c.as_slice-round.result.now in
     let ran = in_rounds c.args.rounds.now c.loop-list.list-index in
-    let made = made_of f round c.in_ok-jobs.jobs.items c.in_ok-made.made.items (jobs_are g before) c.in_ok-made.ensures.len c.in_ok-made.ensures.each in
+    let made = made_of f round c.in_ok-jobs.jobs.items c.in_ok-made.made.items
+    (jobs_are g before) c.in_ok-made.ensures.len c.in_ok-made.ensures.each in
     held_next f c.args.rounds.now c.loop-list.list-index round c.keep_all.new.self c.loop-list-test.true (round_at g before)
     (c.in_ok-keep_all.ensures f ran refl made (held_then g before))
 
 pub returns-clause-rows : goal.returns-clause-rows
 returns-clause-rows g c =
-    all_made (record { joined = renumbered (is_joined c.args.pattern.now) c.args.perm.now; order = length c.args.perm.now; supers = c.args.supers.now })
+    all_made (record {
+      joined = renumbered (is_joined c.args.pattern.now) c.args.perm.now;
+      order = length c.args.perm.now;
+      supers = c.args.supers.now;
+    })
     c.args.rounds.now c.loop-list.list-index c.loop-list.held c.requires.rounds c.loop-list-test.false c.loop-list.invariant

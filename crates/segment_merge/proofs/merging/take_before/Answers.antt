@@ -12,7 +12,8 @@ loop-place-preserved g c =
     let last : iter_mut_rest (rev_source c.loop-place.place-iterator) ≡ front ++ c.replace-side.result ∷ [] =
     c.in-Some.ensures.steps ∙ ap (λ s. front ++ s ∷ []) (sym c.replace-side.ensures.value) in
     record {
-      taking = taking_on c.runs.ensures _ _ _ _ _ _ _ _ c.loop-place.invariant.taking last _ _ c.move_all.ensures.kept c.move_all.ensures.ropes c.keeps.ensures.2 c.in_ok-move_all.ensures.segments c.in_ok-move_all.ensures.net;
+      taking = taking_on c.runs.ensures _ _ _ _ _ _ _ _ c.loop-place.invariant.taking last _ _ c.move_all.ensures.kept
+          c.move_all.ensures.ropes c.keeps.ensures.2 c.in_ok-move_all.ensures.segments c.in_ok-move_all.ensures.net;
       steps =
           let e = ap segment_count last in
           let k = count_append front (c.replace-side.result ∷ []) in

@@ -15,7 +15,9 @@ loop-list-preserved c =
     let s = c.in_ok-side.ensures.net in
     let f = c.loop-list.invariant.few in
     record {
-      ropes = rw e (ropes_append _ c.loop-list.sides.items (c.in_ok-side.side ∷ []) (all_kept c.runs.ensures _ _ _ c.loop-list.invariant.ropes c.side_of.ensures.kept) (c.in_ok-side.ensures.ropes, tt));
+      ropes = rw e
+          (ropes_append _ c.loop-list.sides.items (c.in_ok-side.side ∷ [])
+          (all_kept c.runs.ensures _ _ _ c.loop-list.invariant.ropes c.side_of.ensures.kept) (c.in_ok-side.ensures.ropes, tt));
       net = omega arith;
       few = omega arith;
     }

@@ -5,4 +5,9 @@ use Rattle.side_laws.proofs.Levels.{rising_inserted}
 use Rattle.side_laws.proofs.laws.inserting.Goals as goal
 
 pub returns : goal.returns
-returns c = record { net = λ s ss. omega (arith, total_inserted s ss); rising = rising_inserted; lowest = lowest_inserted; commute = inserted_comm }
+returns c = record {
+  net = λ s ss. omega (arith, total_inserted s ss);
+  rising = rising_inserted;
+  lowest = lowest_inserted;
+  commute = inserted_comm;
+}

@@ -3,4 +3,11 @@ use Rattle.side_laws.proofs.Levels.{total_all, rising_merged, merged_one, all_le
 use Rattle.side_laws.proofs.laws.merging.Goals as goal
 
 pub returns : goal.returns
-returns c = record { net = total_all; rising = rising_merged; one = merged_one; lowest = are_stuck_at; top = is_least_together; levels = all_levels }
+returns c = record {
+  net = total_all;
+  rising = rising_merged;
+  one = merged_one;
+  lowest = are_stuck_at;
+  top = is_least_together;
+  levels = all_levels;
+}

@@ -13,12 +13,15 @@ append-requires-clause-net g c = (appending_first c.all.ensures _ _ _ _ _ _ _ _ 
 
 pub loop-seg-preserved : goal.loop-seg-preserved
 loop-seg-preserved g c = record {
-  appending = appending_on c.all.ensures _ _ _ _ _ _ _ _ c.loop-seg.invariant.appending c.in-Some.ensures.first.0 _ _ (let u = c.in-Some.ensures.first.1 in let l = c.last_up.ensures.value in omega arith) c.in_ok-append.ensures.kept c.in_ok-append.ensures.ropes
+  appending = appending_on c.all.ensures _ _ _ _ _ _ _ _ c.loop-seg.invariant.appending c.in-Some.ensures.first.0 _ _
+      (let u = c.in-Some.ensures.first.1 in let l = c.last_up.ensures.value in omega arith)
+      c.in_ok-append.ensures.kept c.in_ok-append.ensures.ropes
       c.in_ok-append.ensures.segments c.in_ok-append.ensures.net;
 }
 
 pub returns-clause-counted : goal.returns-clause-counted
 returns-clause-counted g c =
     both_ok c.join_sides.result _ _ _
-    (λ side long steps. counted_joined (length c.args.near) (length c.loop-seg.near) (length c.take_first_within.new.self) (length side) _ _ c.loop-seg.invariant.appending.long c.loop-seg.invariant.appending.short long steps)
+    (λ side long steps. counted_joined (length c.args.near) (length c.loop-seg.near) (length c.take_first_within.new.self)
+    (length side) _ _ c.loop-seg.invariant.appending.long c.loop-seg.invariant.appending.short long steps)
     c.join_sides.ensures.length c.join_sides.ensures.counted

@@ -13,11 +13,17 @@ pub series_part-requires-clause-b : goal.series_part-requires-clause-b
 series_part-requires-clause-b g c = rough _ _ c.requires.b
 
 pub returns-clause-stands : goal.returns-clause-stands
-returns-clause-stands g c = series_stands c.composition_law.ensures.series c.args.ropes.now c.args.a c.args.task c.args.b c.args.name _ c.requires.joins (c.in_ok-part.ensures.cut ∙ ap (λ n. series_cut (cut_of c.args.ropes.now c.args.a) c.args.name n (cut_of c.args.ropes.now c.args.b)) c.hill_between-hill.ensures)
+returns-clause-stands g c =
+    series_stands c.composition_law.ensures.series c.args.ropes.now c.args.a c.args.task c.args.b c.args.name _ c.requires.joins
+    (c.in_ok-part.ensures.cut
+    ∙ ap (λ n. series_cut (cut_of c.args.ropes.now c.args.a) c.args.name n (cut_of c.args.ropes.now c.args.b)) c.hill_between-hill.ensures)
 
 pub returns-clause-part : goal.returns-clause-part
 returns-clause-part g c = record {
   both = c.in_ok-part.ensures.rough.both;
   peak = omega (arith, peak_is _ _ _ _ c.in_ok-part.ensures.kinds, c.requires.a.peak, c.requires.b.peak, c.in_ok-part.ensures.peak);
-  within = let a = c.requires.a.within in let b = c.requires.b.within in let h = c.requires.joins.hill in omega (arith, c.in_ok-part.ensures.peak, c.hill_between-hill.ensures);
+  within = let a = c.requires.a.within in
+      let b = c.requires.b.within in
+      let h = c.requires.joins.hill in
+      omega (arith, c.in_ok-part.ensures.peak, c.hill_between-hill.ensures);
 }

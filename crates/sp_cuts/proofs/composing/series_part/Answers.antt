@@ -10,34 +10,44 @@ use Rattle.sp_cuts.proofs.composing.series_part.Goals as goal
 -- ---- cut in the first part
 
 pub lead_over-requires : goal.lead_over-requires
-lead_over-requires g c = let l = first_leads c.all.ensures c.args.ropes.now c.args.a c.args.b c.args.hill c.max-high.result c.requires.a c.requires.b c.requires.after c.requires.before c.requires.hill c.if-a-b.true (omega (arith, c.max-high.ensures, c.top.ensures.top)) in record {
-  near = (c.all.ensures.runs.stay _ _ _ c.requires.b.both.back_ropes c.in_ok-tasks.ensures.kept).0;
-  far = (c.all.ensures.runs.stay _ _ _ c.requires.a.both.back_ropes c.in_ok-tasks.ensures.kept).0;
-  rope = c.in_ok-tasks.ensures.rope;
-  net = l.net;
-  room = l.room;
-  falls = l.falls;
-  rises = l.rises;
-  top = l.top;
-  hill = l.hill;
-}
+lead_over-requires g c = let l =
+    first_leads c.all.ensures c.args.ropes.now c.args.a c.args.b c.args.hill c.max-high.result c.requires.a c.requires.b
+    c.requires.after c.requires.before c.requires.hill c.if-a-b.true (omega (arith, c.max-high.ensures, c.top.ensures.top)) in
+    record {
+      near = (c.all.ensures.runs.stay _ _ _ c.requires.b.both.back_ropes c.in_ok-tasks.ensures.kept).0;
+      far = (c.all.ensures.runs.stay _ _ _ c.requires.a.both.back_ropes c.in_ok-tasks.ensures.kept).0;
+      rope = c.in_ok-tasks.ensures.rope;
+      net = l.net;
+      room = l.room;
+      falls = l.falls;
+      rises = l.rises;
+      top = l.top;
+      hill = l.hill;
+    }
 
 pub returns-in_ok-back-clause-cut : goal.returns-in_ok-back-clause-cut
 returns-in_ok-back-clause-cut g c =
-    first_cut c.all.ensures c.args.ropes.now _ _ c.args.a c.args.b c.args.name c.args.hill c.max-high.result _ c.in_ok-back.back c.requires.a.both c.requires.b.both c.in_ok-tasks.ensures.kept c.in_ok-back.ensures.kept
+    first_cut c.all.ensures c.args.ropes.now _ _ c.args.a c.args.b c.args.name c.args.hill c.max-high.result _
+    c.in_ok-back.back c.requires.a.both c.requires.b.both c.in_ok-tasks.ensures.kept c.in_ok-back.ensures.kept
     c.if-a-b.true (omega (arith, c.max-high.ensures, c.top.ensures.top)) c.in_ok-tasks.ensures.list c.in_ok-back.ensures.segments
 
 pub returns-in_ok-back-clause-kinds : goal.returns-in_ok-back-clause-kinds
 returns-in_ok-back-clause-kinds g c =
-    inl (subst (LiesInFirst (cut_of c.args.ropes.now c.args.a) (cut_of c.args.ropes.now c.args.b) c.args.hill) (sym (returns-in_ok-back-clause-cut g c))
-    (c.series_law.ensures.first (cut_of c.args.ropes.now c.args.a) (cut_of c.args.ropes.now c.args.b) c.args.name c.args.hill c.requires.a.both.meets c.requires.b.both.meets c.requires.after c.requires.before c.if-a-b.true))
+    inl (subst (LiesInFirst (cut_of c.args.ropes.now c.args.a) (cut_of c.args.ropes.now c.args.b) c.args.hill)
+    (sym (returns-in_ok-back-clause-cut g c))
+    (c.series_law.ensures.first (cut_of c.args.ropes.now c.args.a) (cut_of c.args.ropes.now c.args.b) c.args.name
+    c.args.hill c.requires.a.both.meets c.requires.b.both.meets c.requires.after c.requires.before c.if-a-b.true))
 
 pub returns-in_ok-back-clause-rough : goal.returns-in_ok-back-clause-rough
 returns-in_ok-back-clause-rough g c = series_rough _ _ _ _ _ c.args.hill c.requires.a c.requires.b c.requires.hill (
-    sides_of _ _ (series_cut (cut_of c.args.ropes.now c.args.a) c.args.name c.args.hill (cut_of c.args.ropes.now c.args.b)) (returns-in_ok-back-clause-cut g c)
-    (c.all.ensures.runs.stay _ _ _ c.requires.a.both.front_ropes (c.all.ensures.runs.on _ _ _ c.in_ok-tasks.ensures.kept c.in_ok-back.ensures.kept)).0 c.in_ok-back.ensures.ropes
-    (c.series_law.ensures.meets (cut_of c.args.ropes.now c.args.a) (cut_of c.args.ropes.now c.args.b) c.args.name c.args.hill c.requires.a.both.meets c.requires.b.both.meets)
-    (c.series_law.ensures.rising (cut_of c.args.ropes.now c.args.a) (cut_of c.args.ropes.now c.args.b) c.args.name c.args.hill c.requires.a.both.rising c.requires.b.both.rising))
+    sides_of _ _ (series_cut (cut_of c.args.ropes.now c.args.a) c.args.name c.args.hill (cut_of c.args.ropes.now c.args.b))
+    (returns-in_ok-back-clause-cut g c)
+    (c.all.ensures.runs.stay _ _ _ c.requires.a.both.front_ropes
+    (c.all.ensures.runs.on _ _ _ c.in_ok-tasks.ensures.kept c.in_ok-back.ensures.kept)).0 c.in_ok-back.ensures.ropes
+    (c.series_law.ensures.meets (cut_of c.args.ropes.now c.args.a)
+    (cut_of c.args.ropes.now c.args.b) c.args.name c.args.hill c.requires.a.both.meets c.requires.b.both.meets)
+    (c.series_law.ensures.rising (cut_of c.args.ropes.now c.args.a)
+    (cut_of c.args.ropes.now c.args.b) c.args.name c.args.hill c.requires.a.both.rising c.requires.b.both.rising))
     (returns-in_ok-back-clause-kinds g c) (omega (arith, c.max-peak.ensures, c.max.ensures))
 
 pub returns-in_ok-back-clause-counted : goal.returns-in_ok-back-clause-counted
@@ -46,35 +56,48 @@ returns-in_ok-back-clause-counted g c = if_first c.args.a.least c.args.b.least _
 -- ---- cut in the second part
 
 pub lead_over-requires-else-a-b : goal.lead_over-requires-else-a-b
-lead_over-requires-else-a-b g c = let l = second_leads c.all.ensures c.args.ropes.now c.args.a c.args.b c.args.hill c.max-high-else-a-b.result c.requires.a c.requires.b c.requires.after c.requires.before c.requires.hill (let t = c.if-a-b.false in omega arith) (omega (arith, c.max-high-else-a-b.ensures, c.top-else-a-b.ensures.top)) in record {
-  near = (c.all.ensures.runs.stay _ _ _ c.requires.a.both.front_ropes c.in_ok-tasks-2.ensures.kept).0;
-  far = (c.all.ensures.runs.stay _ _ _ c.requires.b.both.front_ropes c.in_ok-tasks-2.ensures.kept).0;
-  rope = c.in_ok-tasks-2.ensures.rope;
-  net = l.net;
-  room = l.room;
-  falls = l.falls;
-  rises = l.rises;
-  top = l.top;
-  hill = l.hill;
-}
+lead_over-requires-else-a-b g c = let l =
+    second_leads c.all.ensures c.args.ropes.now c.args.a c.args.b c.args.hill c.max-high-else-a-b.result
+    c.requires.a c.requires.b c.requires.after c.requires.before c.requires.hill
+    (let t = c.if-a-b.false in omega arith) (omega (arith, c.max-high-else-a-b.ensures, c.top-else-a-b.ensures.top)) in
+    record {
+      near = (c.all.ensures.runs.stay _ _ _ c.requires.a.both.front_ropes c.in_ok-tasks-2.ensures.kept).0;
+      far = (c.all.ensures.runs.stay _ _ _ c.requires.b.both.front_ropes c.in_ok-tasks-2.ensures.kept).0;
+      rope = c.in_ok-tasks-2.ensures.rope;
+      net = l.net;
+      room = l.room;
+      falls = l.falls;
+      rises = l.rises;
+      top = l.top;
+      hill = l.hill;
+    }
 
 pub returns-in_ok-front-clause-cut : goal.returns-in_ok-front-clause-cut
 returns-in_ok-front-clause-cut g c =
-    second_cut c.all.ensures c.args.ropes.now _ _ c.args.a c.args.b c.args.name c.args.hill c.max-high-else-a-b.result _ c.in_ok-front.front c.requires.a.both c.requires.b.both c.in_ok-tasks-2.ensures.kept c.in_ok-front.ensures.kept
-    (let t = c.if-a-b.false in omega arith) (omega (arith, c.max-high-else-a-b.ensures, c.top-else-a-b.ensures.top)) c.in_ok-tasks-2.ensures.list c.in_ok-front.ensures.segments
+    second_cut c.all.ensures c.args.ropes.now _ _ c.args.a c.args.b c.args.name c.args.hill c.max-high-else-a-b.result
+    _ c.in_ok-front.front c.requires.a.both c.requires.b.both c.in_ok-tasks-2.ensures.kept c.in_ok-front.ensures.kept
+    (let t = c.if-a-b.false in omega arith) (omega (arith, c.max-high-else-a-b.ensures, c.top-else-a-b.ensures.top))
+    c.in_ok-tasks-2.ensures.list c.in_ok-front.ensures.segments
 
 pub returns-in_ok-front-clause-kinds : goal.returns-in_ok-front-clause-kinds
 returns-in_ok-front-clause-kinds g c =
-    inr (subst (LiesInSecond (cut_of c.args.ropes.now c.args.a) (cut_of c.args.ropes.now c.args.b) c.args.hill) (sym (returns-in_ok-front-clause-cut g c))
-    (c.series_law.ensures.second (cut_of c.args.ropes.now c.args.a) (cut_of c.args.ropes.now c.args.b) c.args.name c.args.hill c.requires.a.both.meets c.requires.b.both.meets c.requires.after c.requires.before (let t = c.if-a-b.false in omega arith)))
+    inr (subst (LiesInSecond (cut_of c.args.ropes.now c.args.a) (cut_of c.args.ropes.now c.args.b) c.args.hill)
+    (sym (returns-in_ok-front-clause-cut g c))
+    (c.series_law.ensures.second (cut_of c.args.ropes.now c.args.a) (cut_of c.args.ropes.now c.args.b) c.args.name c.args.hill
+    c.requires.a.both.meets c.requires.b.both.meets c.requires.after c.requires.before (let t = c.if-a-b.false in omega arith)))
 
 pub returns-in_ok-front-clause-rough : goal.returns-in_ok-front-clause-rough
 returns-in_ok-front-clause-rough g c = series_rough _ _ _ _ _ c.args.hill c.requires.a c.requires.b c.requires.hill (
-    sides_of _ _ (series_cut (cut_of c.args.ropes.now c.args.a) c.args.name c.args.hill (cut_of c.args.ropes.now c.args.b)) (returns-in_ok-front-clause-cut g c)
-    c.in_ok-front.ensures.ropes (c.all.ensures.runs.stay _ _ _ c.requires.b.both.back_ropes (c.all.ensures.runs.on _ _ _ c.in_ok-tasks-2.ensures.kept c.in_ok-front.ensures.kept)).0
-    (c.series_law.ensures.meets (cut_of c.args.ropes.now c.args.a) (cut_of c.args.ropes.now c.args.b) c.args.name c.args.hill c.requires.a.both.meets c.requires.b.both.meets)
-    (c.series_law.ensures.rising (cut_of c.args.ropes.now c.args.a) (cut_of c.args.ropes.now c.args.b) c.args.name c.args.hill c.requires.a.both.rising c.requires.b.both.rising))
+    sides_of _ _ (series_cut (cut_of c.args.ropes.now c.args.a) c.args.name c.args.hill (cut_of c.args.ropes.now c.args.b))
+    (returns-in_ok-front-clause-cut g c)
+    c.in_ok-front.ensures.ropes (c.all.ensures.runs.stay _ _ _ c.requires.b.both.back_ropes
+    (c.all.ensures.runs.on _ _ _ c.in_ok-tasks-2.ensures.kept c.in_ok-front.ensures.kept)).0
+    (c.series_law.ensures.meets (cut_of c.args.ropes.now c.args.a)
+    (cut_of c.args.ropes.now c.args.b) c.args.name c.args.hill c.requires.a.both.meets c.requires.b.both.meets)
+    (c.series_law.ensures.rising (cut_of c.args.ropes.now c.args.a)
+    (cut_of c.args.ropes.now c.args.b) c.args.name c.args.hill c.requires.a.both.rising c.requires.b.both.rising))
     (returns-in_ok-front-clause-kinds g c) (omega (arith, c.max-peak.ensures, c.max.ensures))
 
 pub returns-in_ok-front-clause-counted : goal.returns-in_ok-front-clause-counted
-returns-in_ok-front-clause-counted g c = if_second c.args.a.least c.args.b.least _ _ (let t = c.if-a-b.false in omega arith) c.in_ok-front.ensures.counted
+returns-in_ok-front-clause-counted g c =
+    if_second c.args.a.least c.args.b.least _ _ (let t = c.if-a-b.false in omega arith) c.in_ok-front.ensures.counted

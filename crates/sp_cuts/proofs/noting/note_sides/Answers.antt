@@ -8,4 +8,5 @@ pub returns-clause-back : goal.returns-clause-back
 returns-clause-back c = all_counted c.args.read _ c.args.part.now.fin _ c.if-not-read.false c.in_ok-back.ensures.count
 
 pub returns-clause-gone : goal.returns-clause-gone
-returns-clause-gone c = all_put c.args.read c.args.part.now.initial c.args.part.now.fin _ _ _ _ _ c.if-not-read.false c.in_ok-front.ensures.gone c.in_ok-back.ensures.gone
+returns-clause-gone c = all_put c.args.read c.args.part.now.initial c.args.part.now.fin
+    _ _ _ _ _ c.if-not-read.false c.in_ok-front.ensures.gone c.in_ok-back.ensures.gone

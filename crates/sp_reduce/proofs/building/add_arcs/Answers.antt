@@ -16,8 +16,10 @@ pub loop-arc-init : goal.loop-arc-init
 loop-arc-init c = record {
   tasks = refl;
   ranked = λ rank rises x lt. absurd (omega (arith, lt, ap length c.requires.empty.0));
-  carried = carried-empty (map item_of_arc c.args.arcs.now) c.args.forest.now.pieces.items c.args.links.now.list c.args.forest.now.nodes.items c.requires.empty.2 c.requires.empty.0 c.requires.empty.1;
-  row = subst (λ (ls : List Link). ReducesTo (map ends_of c.args.arcs.now) (pairs_of ls ++ map ends_of c.args.arcs.now)) (sym c.requires.empty.0) (in_order (IsPermutation-refl (map ends_of c.args.arcs.now)));
+  carried = carried-empty (map item_of_arc c.args.arcs.now) c.args.forest.now.pieces.items
+      c.args.links.now.list c.args.forest.now.nodes.items c.requires.empty.2 c.requires.empty.0 c.requires.empty.1;
+  row = subst (λ (ls : List Link). ReducesTo (map ends_of c.args.arcs.now) (pairs_of ls ++ map ends_of c.args.arcs.now))
+      (sym c.requires.empty.0) (in_order (IsPermutation-refl (map ends_of c.args.arcs.now)));
   lens = omega (arith, c.args.forest.now.nodes.ok.0, ap length c.requires.empty.0, ap length c.requires.empty.1);
   few = omega (arith, ap length c.requires.empty.0);
   room = omega (arith, c.args.forest.now.pieces.ok.0, ap length c.requires.empty.2, ap link_count c.requires.empty.0);
@@ -44,9 +46,13 @@ loop-arc-preserved c =
       tasks = c.in_ok-add_arc.ensures.tasks ∙ c.loop-arc.invariant.tasks;
       ranked = λ rank rises. c.in_ok-add_arc.ensures.ranked rank (rises i no_arc lt) (c.loop-arc.invariant.ranked rank rises);
       carried = c.in_ok-add_arc.ensures.carried (map item_of_arc arcs) (map item_of_arc (drop (i + 1) arcs))
-          (subst (λ (xs : List Item). IsCarried (map item_of_arc arcs) xs c.loop-arc.forest.pieces.items links c.loop-arc.forest.nodes.items) (item-next arcs no_arc i lt) c.loop-arc.invariant.carried);
-      row = leads-trans (map ends_of arcs) (pairs_of links ++ ends_of (get_or arcs i no_arc) ∷ map ends_of (drop (i + 1) arcs)) (pairs_of c.add_arc.new.links.list ++ map ends_of (drop (i + 1) arcs))
-          (subst (λ (xs : List (ℕ × ℕ)). ReducesTo (map ends_of arcs) (pairs_of links ++ xs)) (ends-next arcs no_arc i lt) c.loop-arc.invariant.row)
+          (subst
+          (λ (xs : List Item). IsCarried (map item_of_arc arcs) xs c.loop-arc.forest.pieces.items links c.loop-arc.forest.nodes.items)
+          (item-next arcs no_arc i lt) c.loop-arc.invariant.carried);
+      row = leads-trans (map ends_of arcs) (pairs_of links ++ ends_of (get_or arcs i no_arc) ∷ map ends_of (drop (i + 1) arcs))
+          (pairs_of c.add_arc.new.links.list ++ map ends_of (drop (i + 1) arcs))
+          (subst (λ (xs : List (ℕ × ℕ)). ReducesTo (map ends_of arcs) (pairs_of links ++ xs))
+          (ends-next arcs no_arc i lt) c.loop-arc.invariant.row)
           (c.in_ok-add_arc.ensures.row (map ends_of (drop (i + 1) arcs)));
       lens = c.in_ok-add_arc.ensures.lens.0;
       few = omega (arith, c.loop-arc.invariant.few, c.in_ok-add_arc.ensures.lens.1);
@@ -55,12 +61,14 @@ loop-arc-preserved c =
 
 pub returns-clause-carried : goal.returns-clause-carried
 returns-clause-carried c =
-    subst (λ (xs : List Arc). IsCarried (map item_of_arc c.args.arcs.now) (map item_of_arc xs) c.loop-arc.forest.pieces.items c.loop-arc.links.list c.loop-arc.forest.nodes.items)
+    subst (λ (xs : List Arc). IsCarried (map item_of_arc c.args.arcs.now)
+    (map item_of_arc xs) c.loop-arc.forest.pieces.items c.loop-arc.links.list c.loop-arc.forest.nodes.items)
     (drop_all c.loop-arc.arc-index c.args.arcs.now c.loop-arc-test.false) c.loop-arc.invariant.carried
 
 pub returns-clause-row : goal.returns-clause-row
 returns-clause-row c =
     subst (λ (xs : List (ℕ × ℕ)). ReducesTo (map ends_of c.args.arcs.now) xs)
-    (ap (λ (xs : List Arc). pairs_of c.loop-arc.links.list ++ map ends_of xs) (drop_all c.loop-arc.arc-index c.args.arcs.now c.loop-arc-test.false)
+    (ap (λ (xs : List Arc). pairs_of c.loop-arc.links.list ++ map ends_of xs)
+    (drop_all c.loop-arc.arc-index c.args.arcs.now c.loop-arc-test.false)
     ∙ append-nil (pairs_of c.loop-arc.links.list))
     c.loop-arc.invariant.row

@@ -10,7 +10,8 @@ abbrev pub invariant-loop-arc : goal.invariant-loop-arc
 invariant-loop-arc l = record {
   tasks : l.links.tasks ≡ l.fn.links.tasks;
   ranked : (rank : ℕ → ℕ) → All (Rises rank) l.arcs → AreLinksRanked rank l.links.list;
-  carried : IsCarried (map item_of_arc l.arcs) (map item_of_arc (drop l.arc-index l.arcs)) l.forest.pieces.items l.links.list l.forest.nodes.items;
+  carried : IsCarried (map item_of_arc l.arcs)
+      (map item_of_arc (drop l.arc-index l.arcs)) l.forest.pieces.items l.links.list l.forest.nodes.items;
   row : ReducesTo (map ends_of l.arcs) (pairs_of l.links.list ++ map ends_of (drop l.arc-index l.arcs));
   lens : vec_len l.forest.nodes ≡ length l.links.list;
   few : length l.links.list ≤ l.arc-index;

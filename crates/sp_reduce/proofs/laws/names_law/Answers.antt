@@ -4,7 +4,8 @@ use Rattle.sp_reduce.proofs.laws.names_law.Goals as goal
 
 pub returns-clause-few : goal.returns-clause-few
 returns-clause-few c = λ graph names t is h.
-    let same : length names ≡ length graph.tasks = length-from_once (length graph.tasks) names h.within (λ v low high. h.once v (low, high)) in
+    let same : length names ≡ length graph.tasks =
+    length-from_once (length graph.tasks) names h.within (λ v low high. h.once v (low, high)) in
     omega (arith, same, is.few_tasks)
 
 pub returns-clause-within : goal.returns-clause-within

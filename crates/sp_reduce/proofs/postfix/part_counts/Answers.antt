@@ -18,7 +18,8 @@ loop-piece-preserved c =
           get_or_read counts w.in-Both.first w.index.result.now (omega (arith, made.0, c.loop-piece.invariant.len)) w.index.ensures 0
           ∙ c.loop-piece.invariant.counts w.in-Both.first made.0 in
           let second : w.index-in-Both.result.now ≡ count_at ps w.in-Both.second =
-          get_or_read counts w.in-Both.second w.index-in-Both.result.now (omega (arith, made.1, c.loop-piece.invariant.len)) w.index-in-Both.ensures 0
+          get_or_read counts w.in-Both.second w.index-in-Both.result.now
+          (omega (arith, made.1, c.loop-piece.invariant.len)) w.index-in-Both.ensures 0
           ∙ c.loop-piece.invariant.counts w.in-Both.second made.1 in
           w.count-is ∙ w.saturating_add-count.ensures ∙ (λ z. min (first z + second z) (2 ^ 32 - 1))
           ∙ count-both ps c.requires j w.in-Both.first w.in-Both.second lt w.in-Both.is)

@@ -13,7 +13,8 @@ loop-link-preserved c =
       | then-link+in_ok-push w ↦ ap (λ (v : Vec (ℕ × ℕ) Global). v.items) w.ends-is ∙ w.in_ok-push.ensures.items
           ∙ ap (λ (xs : List (ℕ × ℕ)). xs ++ ((link_at links i).from, (link_at links i).to) ∷ []) c.loop-link.invariant
           ∙ sym (take-alive links i c.loop-link-test.true w.if-link.true)
-      | else-link w ↦ ap (λ (v : Vec (ℕ × ℕ) Global). v.items) w.ends-is ∙ c.loop-link.invariant ∙ sym (take-dead links i c.loop-link-test.true w.if-link.false)
+      | else-link w ↦ ap (λ (v : Vec (ℕ × ℕ) Global). v.items) w.ends-is
+          ∙ c.loop-link.invariant ∙ sym (take-dead links i c.loop-link-test.true w.if-link.false)
     ]
 
 pub returns : goal.returns

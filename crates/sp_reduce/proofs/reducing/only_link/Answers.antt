@@ -12,6 +12,7 @@ loop-i-preserved c = c.loop-i.invariant ∙ drop-dead c.args.links.now c.loop-i.
 
 pub returns : goal.returns
 returns c = λ one.
-    let none : pairs_of c.args.links.now ≡ [] = c.loop-i.invariant ∙ ap pairs_of (drop_all c.loop-i.i c.args.links.now c.loop-i-test.false) in
+    let none : pairs_of c.args.links.now ≡ [] =
+    c.loop-i.invariant ∙ ap pairs_of (drop_all c.loop-i.i c.args.links.now c.loop-i-test.false) in
     let both : ◌≡◌ {A = List (ℕ × ℕ)} ((0, 0) ∷ []) [] = sym one ∙ none in
     absurd cc

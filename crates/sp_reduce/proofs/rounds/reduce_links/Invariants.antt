@@ -8,7 +8,8 @@ use Rattle.sp_reduce.proofs.rounds.reduce_links.Given as goal
 abbrev pub invariant-loop-task : goal.invariant-loop-task
 invariant-loop-task l = record {
   row : ReducesTo (pairs_of l.fn.links.list) (pairs_of l.links.list);
-  carried : (graph : List Item) → IsCarried graph [] l.fn.forest.pieces.items l.fn.links.list l.fn.forest.nodes.items → IsCarried graph [] l.forest.pieces.items l.links.list l.forest.nodes.items;
+  carried : (graph : List Item) → IsCarried graph [] l.fn.forest.pieces.items l.fn.links.list l.fn.forest.nodes.items
+      → IsCarried graph [] l.forest.pieces.items l.links.list l.forest.nodes.items;
   lens : vec_len l.forest.nodes ≡ length l.links.list;
   room : vec_len l.forest.pieces + link_count l.links.list ≤ vec_len l.fn.forest.pieces + link_count l.fn.links.list;
   listed : AreTasks l.links.tasks l.todo.items;

@@ -16,22 +16,29 @@ pub returns-then-not-is_in_series-clause-noted : goal.returns-then-not-is_in_ser
 returns-then-not-is_in_series-clause-noted c = λ u low high one_in one_out.
     let list = c.args.links.now.list in
     elim (cases_eq u c.args.task) [
-      | inl e ↦ (let yes : c.is_in_series.result ≡ true = c.is_in_series.ensures.1 (subst (λ w. links_into w list ≡ 1) e one_in, subst (λ w. links_out_of w list ≡ 1) e one_out) in
+      | inl e ↦ (let yes : c.is_in_series.result ≡ true = c.is_in_series.ensures.1 (
+        subst (λ w. links_into w list ≡ 1) e one_in,
+        subst (λ w. links_out_of w list ≡ 1) e one_out,
+      ) in
           absurd (not_both c.is_in_series.result yes c.if-not-is_in_series.true))
       | inr other ↦ c.requires.noted u low high other one_in one_out
     ]
 
 pub returns-clause-listed : goal.returns-clause-listed
-returns-clause-listed c = c.in_ok-note-2.ensures.listed c.args.links.now.tasks c.in_ok-taken.ensures.within.1 (c.in_ok-note.ensures.listed c.args.links.now.tasks c.in_ok-taken.ensures.within.0 c.requires.listed)
+returns-clause-listed c = c.in_ok-note-2.ensures.listed c.args.links.now.tasks c.in_ok-taken.ensures.within.1
+    (c.in_ok-note.ensures.listed c.args.links.now.tasks c.in_ok-taken.ensures.within.0 c.requires.listed)
 
 pub returns-clause-carried : goal.returns-clause-carried
-returns-clause-carried c = λ graph h. c.in_ok-carry.ensures.carried graph c.args.links.now.list c.take_out.new.self.list c.in_ok-taken.ensures.taken h
+returns-clause-carried c =
+    λ graph h. c.in_ok-carry.ensures.carried graph c.args.links.now.list c.take_out.new.self.list c.in_ok-taken.ensures.taken h
 
 pub returns-clause-noted : goal.returns-clause-noted
 returns-clause-noted c = λ u low high one_in one_out.
     let taken = c.in_ok-taken.taken in
     elim (cases_eq u c.args.task) [
-      | inl e ↦ (let one : links_into c.args.task c.take_out.new.self.list ≡ 1 = subst (λ w. links_into w c.take_out.new.self.list ≡ 1) e one_in in
+      | inl e ↦
+          (let one : links_into c.args.task c.take_out.new.self.list ≡ 1 =
+          subst (λ w. links_into w c.take_out.new.self.list ≡ 1) e one_in in
           absurd (omega (arith, one, c.in_ok-taken.ensures.none_in)))
       | inr not_task ↦ elim (cases_eq u taken.to) [
         | inl e ↦ subst (λ w. stands w c.note-2.new.todo.items ≡ true) (sym e) (c.in_ok-note-2.ensures.has (omega (arith, low, e)))

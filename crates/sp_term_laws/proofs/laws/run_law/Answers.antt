@@ -12,4 +12,6 @@ pub returns-clause-cut : goal.returns-clause-cut
 returns-clause-cut c = λ t allowed. cut-ways t (has_parts t allowed)
 
 pub returns-clause-joined : goal.returns-clause-joined
-returns-clause-joined c = λ t allowed s done rest before after w u. let z = ways-cut t (has_parts t allowed) done rest s before after w u in (z.traversal, z.memory, z.before, z.after)
+returns-clause-joined c = λ t allowed s done rest before after w u. let z =
+    ways-cut t (has_parts t allowed) done rest s before after w u in
+    (z.traversal, z.memory, z.before, z.after)

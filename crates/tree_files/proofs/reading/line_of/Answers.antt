@@ -8,7 +8,8 @@ use Rattle.tree_files.proofs.reading.line_of.Goals as goal
 pub loop-before-preserved : goal.loop-before-preserved
 loop-before-preserved c =
     let rows = rows_of_bytes Commented c.args.bytes.now in
-    rows_from_next c.next_line.result (λ line. row line.number line.text.now) rows (rows_of c.loop-before.lines) (rows_of c.next_line.new.self) c.loop-before._before c.loop-before.invariant
+    rows_from_next c.next_line.result (λ line. row line.number line.text.now) rows
+    (rows_of c.loop-before.lines) (rows_of c.next_line.new.self) c.loop-before._before c.loop-before.invariant
     c.next_line.ensures.rows c.next_line.ensures.none
 
 pub returns-in-Some : goal.returns-in-Some
@@ -17,7 +18,8 @@ returns-in-Some c =
     let none : Row = record { number = 0; tokens = [] } in
     let place : c.loop-before._before ≡ c.args.node + 1 = omega arith in
     let ahead : rows_of c.loop-before.lines ≡ drop (c.args.node + 1) rows = c.loop-before.invariant ∙ ap (λ k. drop k rows) place in
-    sym (ap (λ (r : Row). r.number) (row_ahead rows (rows_of c.loop-before.lines) (c.args.node + 1) none ahead ∙ ap (λ (l : List Row). get_or l 0 none) c.in-Some.ensures.rows))
+    sym (ap (λ (r : Row). r.number) (row_ahead rows (rows_of c.loop-before.lines) (c.args.node + 1) none ahead
+    ∙ ap (λ (l : List Row). get_or l 0 none) c.in-Some.ensures.rows))
 
 pub returns-in-None : goal.returns-in-None
 returns-in-None c =
@@ -25,4 +27,5 @@ returns-in-None c =
     let none : Row = record { number = 0; tokens = [] } in
     let place : c.loop-before._before ≡ c.args.node + 1 = omega arith in
     let ahead : rows_of c.loop-before.lines ≡ drop (c.args.node + 1) rows = c.loop-before.invariant ∙ ap (λ k. drop k rows) place in
-    sym (ap (λ (r : Row). r.number) (row_ahead rows (rows_of c.loop-before.lines) (c.args.node + 1) none ahead ∙ ap (λ (l : List Row). get_or l 0 none) c.in-None.ensures.rows))
+    sym (ap (λ (r : Row). r.number) (row_ahead rows (rows_of c.loop-before.lines) (c.args.node + 1) none ahead
+    ∙ ap (λ (l : List Row). get_or l 0 none) c.in-None.ensures.rows))

@@ -7,7 +7,8 @@ use Rattle.trees.proofs.children.child_rows.Goals as goal
 
 pub group-requires-clause-below : goal.group-requires-clause-below
 group-requires-clause-below c =
-    All-same (λ key. key < length c.args.nodes.now + 1) c.deref.result.now (map parent_in c.args.nodes.now) (c.deref.ensures.value ∙ c.in_ok-parents.ensures)
+    All-same (λ key. key < length c.args.nodes.now + 1) c.deref.result.now
+    (map parent_in c.args.nodes.now) (c.deref.ensures.value ∙ c.in_ok-parents.ensures)
     (parents_within c.args.nodes.now c.requires.parents)
 
 pub returns : goal.returns

@@ -7,7 +7,8 @@ use Rattle.trees.proofs.OrderLemmas.{IsWalk}
 use Rattle.trees.proofs.postorder.postorder.Given as goal
 
 abbrev pub invariant-loop-v : goal.invariant-loop-v
-invariant-loop-v l = (nodes : List Node) (f : Forest) → IsTree nodes → IsForestOf nodes f → AreChildren nodes l.children → IsWalk nodes f l.pending.items l.found.items
+invariant-loop-v l = (nodes : List Node) (f : Forest) → IsTree nodes → IsForestOf nodes f
+    → AreChildren nodes l.children → IsWalk nodes f l.pending.items l.found.items
 
 abbrev pub decreases-loop-v : goal.decreases-loop-v
 decreases-loop-v l = most_tasks - length l.found.items

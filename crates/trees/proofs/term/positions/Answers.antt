@@ -17,4 +17,8 @@ loop-v-preserved c =
 
 pub push_beside-requires-2 : goal.push_beside-requires-2
 push_beside-requires-2 c =
-    omega (arith, row-few c.args.nodes.now c.args.children.now c.requires.children 0 (omega arith) c.row-2.result.now c.row-2.ensures, c.requires.few)
+    omega (
+      arith,
+      row-few c.args.nodes.now c.args.children.now c.requires.children 0 (omega arith) c.row-2.result.now c.row-2.ensures,
+      c.requires.few,
+    )

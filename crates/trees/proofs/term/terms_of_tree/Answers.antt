@@ -37,4 +37,5 @@ returns-clause-system c =
     let names = c.in_ok-names.ensures nodes f.0 is f.1 rows in
     let positions = flat-read nodes _ _ _ _ f.0 c.nodes-nodes.ensures.value c.deref.ensures.value f.1 names c.in_ok-positions.ensures in
     subst (λ (z : List ℕ). IsRenamed z (system_of_term (term_of c.new.result)) (system_of_nodes nodes)) (sym (c.new-2.ensures ∙ names))
-    (subst (λ (z : List Position). IsRenamed (all_numbers f.0) (system_of_term (term_of z)) (system_of_nodes nodes)) (sym (c.new.ensures ∙ positions)) (c.tree_term.ensures.system nodes f.0 is f.1))
+    (subst (λ (z : List Position). IsRenamed (all_numbers f.0) (system_of_term (term_of z)) (system_of_nodes nodes))
+    (sym (c.new.ensures ∙ positions)) (c.tree_term.ensures.system nodes f.0 is f.1))

@@ -16,5 +16,6 @@ returns-clause-dues c =
     let same = ap (λ (clock : ClockValue). length clock.dues) c.self.view_is in
     let room = ap (λ (clock : ClockValue). clock.room) c.self.view_is in
     let ok = c.push.ensures.succeeds (omega (arith, c.requires, same, room, long, c.self.invariant.enough)) in
-    let joined = on_ok c.push.result (IsPermutation (record { 0 = c.args.due } ∷ items) c.push.new.self.data.items) ok c.push.ensures.permutation in
+    let joined =
+    on_ok c.push.result (IsPermutation (record { 0 = c.args.due } ∷ items) c.push.new.self.data.items) ok c.push.ensures.permutation in
     rw (← c.self.view_is) (IsPermutation-map due (record { 0 = c.args.due } ∷ items) c.push.new.self.data.items joined)

@@ -9,7 +9,8 @@ pub returns-clause-dues : goal.returns-clause-dues
 returns-clause-dues c =
     let item = c.in_ok-due.field-0 in
     let due : Reverse Due → Due = λ item. item.0 in
-    rw (← c.self.view_is) (IsPermutation-map due c.self.inside.heap.data.items (item ∷ c.pop.new.self.data.items) c.in_ok-due.ensures.permutation)
+    rw (← c.self.view_is)
+    (IsPermutation-map due c.self.inside.heap.data.items (item ∷ c.pop.new.self.data.items) c.in_ok-due.ensures.permutation)
 
 pub returns-clause-first : goal.returns-clause-first
 returns-clause-first c =

@@ -10,7 +10,8 @@ use Rattle.activation.proofs.Placing.{placed}
 use Rattle.activation.proofs.Beginning.{start_tables}
 use Rattle.activation.proofs.cores.Core.at_start.Goals as goal
 
-set : {system : TaskSystem} {order : List ℕ} {bound workers : ℕ} → IsSystem system → IsTraversal system order → peak_of system order ≤ bound → 1 ≤ workers → IsSetting (record { system = system; order = order; bound = bound; workers = workers })
+set : {system : TaskSystem} {order : List ℕ} {bound workers : ℕ} → IsSystem system → IsTraversal system order
+    → peak_of system order ≤ bound → 1 ≤ workers → IsSetting (record { system = system; order = order; bound = bound; workers = workers })
 set is traversal within some = record { system = is; traversal = traversal; bound = within; workers = some }
 
 pub places_of-requires : goal.places_of-requires
@@ -25,7 +26,8 @@ invariant_of-result c =
     let count = ap length c.tasks-count.ensures.value in
     let phases_made : c.in_ok-phases.phases.items ≡ replicate (length c.tasks-count.result.now) Idle = search rules in
     let phases : c.in_ok-phases.phases.items ≡ replicate (length system.tasks) Idle = rw count at phases_made in
-    let tables = start_tables setting is c.requires.workers.1 (c.start_law.ensures.safe setting is) (c.start_law.ensures.booked setting) (c.start_law.ensures.used setting)
+    let tables = start_tables setting is c.requires.workers.1 (c.start_law.ensures.safe setting is)
+    (c.start_law.ensures.booked setting) (c.start_law.ensures.used setting)
     (record {
       times = c.in_ok-times.times.items;
       needs = c.in_ok-needs.needs.needs.items;
@@ -39,7 +41,8 @@ invariant_of-result c =
       frees_are = c.in_ok-needs.ensures.frees;
       places_length = c.in_ok-places.ensures.numbers.long;
       places_are = c.in_ok-places.ensures.there;
-      consumers_are = order_rows (rw c.deref.ensures.value at c.in_ok-consumers.ensures) (c.traversal_law.ensures.long system order c.requires.traversal) c.requires.traversal.tasks c.in_ok-places.ensures.there;
+      consumers_are = order_rows (rw c.deref.ensures.value at c.in_ok-consumers.ensures)
+          (c.traversal_law.ensures.long system order c.requires.traversal) c.requires.traversal.tasks c.in_ok-places.ensures.there;
     })
     c.in_ok-waiting.waiting.items c.in_ok-waiting.ensures c.start_memory-memory.result c.start_memory-memory.ensures in
     rw (c.in_ok-running.ensures, count, phases, c.in_ok-order.ensures.items, c.of.ensures)

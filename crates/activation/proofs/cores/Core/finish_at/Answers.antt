@@ -5,7 +5,8 @@ use Rattle.std.proofs.lemmas.List.{take_at}
 use Rattle.activation.specs.declared.events.Phase.TheVariants.{Done}
 use Rattle.activation.specs.declared.events.EventKind.TheVariants.{Finish}
 use Rattle.activation.proofs.Phases.{phase_written}
-use Rattle.activation.proofs.Keeping.{read_here, number_here, runs_here, rests_here, finish_is_task, finish_frees, finish_within, finish_enough, finish_waiting, finished_tables}
+use Rattle.activation.proofs.Keeping.{read_here, number_here, runs_here, rests_here, finish_is_task, finish_frees}
+use Rattle.activation.proofs.Keeping.{finish_within, finish_enough, finish_waiting, finished_tables}
 use Rattle.activation.proofs.cores.Core.finish_at.Goals as goal
 
 pub overflow_sub-self : goal.overflow_sub-self
@@ -46,7 +47,10 @@ returns-then-not-is_running-clause-legal c =
     let a = c.self.invariant in
     let w : c.args.place < length f.order.items = rw (← c.self.view_is) at c.requires in
     let here = read_here a c.args.place c.index-task.result.now w c.index-task.ensures in
-    rw (← c.self.view_is, here) (λ z. absurd (true≢false (sym z)), λ h. absurd (rests_here a w here c.index.ensures (sym c.is_running.ensures ∙ c.if-not-is_running.true) h))
+    rw (← c.self.view_is, here) (
+      λ z. absurd (true≢false (sym z)),
+      λ h. absurd (rests_here a w here c.index.ensures (sym c.is_running.ensures ∙ c.if-not-is_running.true) h),
+    )
 
 pub returns-clause-legal : goal.returns-clause-legal
 returns-clause-legal c =
@@ -97,5 +101,6 @@ invariant_of-self c =
     let released = rw (c.row.ensures, c.deref_mut.ensures.value) at c.release.ensures in
     let waits = finish_waiting a h w here now (omega (arith, len, c.deref_mut.ensures.len, ap length c.deref_mut.ensures.value)) released in
     rw (take_at now (drop (length now) f.waiting.items) f.waiting.len len)
-    (finished_tables a h c.index-frees.result.now freed (c.event_law.ensures.change _ a.setting _ a.safe Finish c.index-task.result.now h) (c.event_law.ensures.kept _ a.setting _ a.safe Finish c.index-task.result.now h) c.remove.new.self
+    (finished_tables a h c.index-frees.result.now freed (c.event_law.ensures.change _ a.setting _ a.safe Finish c.index-task.result.now h)
+    (c.event_law.ensures.kept _ a.setting _ a.safe Finish c.index-task.result.now h) c.remove.new.self
     c.remove.ensures.members c.remove.ensures.shorter c.remove.ensures.room c.remove.ensures.count now waits)

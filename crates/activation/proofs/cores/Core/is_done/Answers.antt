@@ -7,9 +7,11 @@ use Rattle.activation.proofs.cores.Core.is_done.Goals as goal
 pub returns-then-is_number : goal.returns-then-is_number
 returns-then-is_number c =
     let n = c.is_number.ensures.0 c.if-is_number.true in
-    rw (← c.self.view_is) (c.is_done.ensures ∙ ap is_done_phase (phase_read c.self.inside.phases.items c.args.task c.index.result.now n.0 (omega (arith, n.1, c.len.ensures)) c.index.ensures))
+    rw (← c.self.view_is) (c.is_done.ensures ∙ ap is_done_phase
+    (phase_read c.self.inside.phases.items c.args.task c.index.result.now n.0 (omega (arith, n.1, c.len.ensures)) c.index.ensures))
 
 pub returns-else-is_number : goal.returns-else-is_number
 returns-else-is_number c =
     rw (← c.self.view_is) (c.if-is_number.false
-    ∙ sym (ap is_done_phase (phase_past c.self.inside.phases.items c.args.task (λ n. true≢false (sym (c.is_number.ensures.1 (n.0, omega (arith, n.1, c.len.ensures))) ∙ c.if-is_number.false)))))
+    ∙ sym (ap is_done_phase (phase_past c.self.inside.phases.items c.args.task
+    (λ n. true≢false (sym (c.is_number.ensures.1 (n.0, omega (arith, n.1, c.len.ensures))) ∙ c.if-is_number.false)))))

@@ -12,7 +12,16 @@ returns-then-index-eq0 c =
     let w : c.args.place < length f.order.items = rw (← c.self.view_is) at c.requires in
     let here = read_here a c.args.place c.index-then-index-eq0.result.now w c.index-then-index-eq0.ensures in
     rw (← c.self.view_is, here) (elim c.if-at-self.branch [
-      | then-at-self b ↦ rw (front_read a w here, lt-ltb _ _ b.if-at-self.true, ready_read a w here b.index.ensures, ← b.value-is, c.if-index-eq0.true, and-true, idle_read a w here c.index-then-index-eq0-2.ensures, ← c.is_idle.ensures)
+      | then-at-self b ↦ rw (
+        front_read a w here,
+        lt-ltb _ _ b.if-at-self.true,
+        ready_read a w here b.index.ensures,
+        ← b.value-is,
+        c.if-index-eq0.true,
+        and-true,
+        idle_read a w here c.index-then-index-eq0-2.ensures,
+        ← c.is_idle.ensures,
+      )
       | else-at-self b ↦ absurd (true≢false (sym c.if-index-eq0.true ∙ b.value-is ∙ le-ltb _ _ b.if-at-self.false))
     ])
 

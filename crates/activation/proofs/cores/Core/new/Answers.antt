@@ -7,7 +7,8 @@ use Rattle.mp_system.specs.Refusal.{IsOrderRefusal}
 use Rattle.activation.specs.Refusal.{IsCoreRefusal, same_refusal}
 use Rattle.activation.proofs.cores.Core.new.Goals as goal
 
-order_refused : (system : TaskSystem) (order : List ℕ) (bound : ℕ) (r : ReplayRefusal) → IsOrderRefusal system order r → IsCoreRefusal system order bound (same_refusal r)
+order_refused : (system : TaskSystem) (order : List ℕ) (bound : ℕ) (r : ReplayRefusal)
+    → IsOrderRefusal system order r → IsCoreRefusal system order bound (same_refusal r)
 order_refused system order bound (Order fault) h = h
 order_refused system order bound NoMemory h = tt
 

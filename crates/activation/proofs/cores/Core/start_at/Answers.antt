@@ -34,7 +34,8 @@ overflow_add-self c =
     let here = read_here c.self.invariant c.args.place c.index-task.result.now w c.index-task.ensures in
     let h = rw (← c.self.view_is, here) at c.may_start_at.ensures.0 c.if-not-may_start_at.false in
     let cost = number_here a w here a.fixed.needs_are c.index-need.ensures in
-    let fits = start_fits a h cost (c.event_law.ensures.change _ a.setting _ a.safe Start c.index-task.result.now h) (c.event_law.ensures.kept _ a.setting _ a.safe Start c.index-task.result.now h) in
+    let fits = start_fits a h cost (c.event_law.ensures.change _ a.setting _ a.safe Start c.index-task.result.now h)
+    (c.event_law.ensures.kept _ a.setting _ a.safe Start c.index-task.result.now h) in
     search rules
 
 pub invariant_of-self : goal.invariant_of-self
@@ -44,7 +45,8 @@ invariant_of-self c =
     let here = read_here c.self.invariant c.args.place c.index-task.result.now w c.index-task.ensures in
     let h = rw (← c.self.view_is, here) at c.may_start_at.ensures.0 c.if-not-may_start_at.false in
     let cost = number_here a w here a.fixed.needs_are c.index-need.ensures in
-    started_tables a h cost (c.event_law.ensures.change _ a.setting _ a.safe Start c.index-task.result.now h) (c.event_law.ensures.kept _ a.setting _ a.safe Start c.index-task.result.now h) c.add.new.self
+    started_tables a h cost (c.event_law.ensures.change _ a.setting _ a.safe Start c.index-task.result.now h)
+    (c.event_law.ensures.kept _ a.setting _ a.safe Start c.index-task.result.now h) c.add.new.self
     (ap (λ r. r.listed) c.add.ensures) (ap (λ r. r.room) c.add.ensures) (ap (λ r. r.count) c.add.ensures)
 
 pub returns-clause-next : goal.returns-clause-next
@@ -52,4 +54,9 @@ returns-clause-next c =
     let w : c.args.place < length c.self.inside.order.items = rw (← c.self.view_is) at c.requires in
     let here = read_here c.self.invariant c.args.place c.index-task.result.now w c.index-task.ensures in
     let h = rw (← c.self.view_is, here) at c.may_start_at.ensures.0 c.if-not-may_start_at.false in
-    rw (← c.self.view_is, here, phase_written c.self.inside.phases.items c.index-task.result.now Running (start_is_task c.self.invariant c.index-task.result.now h).0)
+    rw (
+      ← c.self.view_is,
+      here,
+      phase_written c.self.inside.phases.items c.index-task.result.now Running
+          (start_is_task c.self.invariant c.index-task.result.now h).0,
+    )

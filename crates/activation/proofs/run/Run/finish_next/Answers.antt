@@ -14,7 +14,8 @@ use Rattle.activation.proofs.run.Run.finish_next.Goals as goal
 pub returns-in_err-next-clause-none : goal.returns-in_err-next-clause-none
 returns-in_err-next-clause-none c =
     let k = c.keeps.ensures in
-    rw (← c.self.view_is, c.from_residual.ensures) (none_runs c.traversal_law.ensures.long k.setting k.safe c.self.invariant c.in_err-next.ensures.none)
+    rw (← c.self.view_is, c.from_residual.ensures)
+    (none_runs c.traversal_law.ensures.long k.setting k.safe c.self.invariant c.in_err-next.ensures.none)
 
 pub task_at-task-requires : goal.task_at-task-requires
 task_at-task-requires c =
@@ -30,7 +31,8 @@ refresh_consumers-requires-clause-place c =
     let k = c.keeps.ensures in
     let next = c.in_ok-next.next in
     let among = taken_among f.room.clock.dues c.take_first.new.self.dues next c.in_ok-next.ensures.dues in
-    rw c.finish_at.ensures.setting (due_within c.traversal_law.ensures.long k.setting k.safe c.self.invariant next among c.in_ok-next.ensures.first)
+    rw c.finish_at.ensures.setting
+    (due_within c.traversal_law.ensures.long k.setting k.safe c.self.invariant next among c.in_ok-next.ensures.first)
 
 pub finish_at-requires : goal.finish_at-requires
 finish_at-requires c =
@@ -60,7 +62,8 @@ invariant_of-self-2 c =
     let time = due_time long k.setting k.safe c.self.invariant next among first in
     rw (c.finish_at.ensures.setting, done) (finished_run k.setting k.safe c.self.invariant task next legal
     (due_within long k.setting k.safe c.self.invariant next among first) refl time
-    (none_before long k.setting k.safe c.self.invariant next among first) c.take_first.new.self c.in_ok-next.ensures.room c.in_ok-next.ensures.dues fewer.running
+    (none_before long k.setting k.safe c.self.invariant next among first)
+    c.take_first.new.self c.in_ok-next.ensures.room c.in_ok-next.ensures.dues fewer.running
     c.refresh_consumers.new.ready c.refresh_consumers.ensures.long
     (rw (c.finish_at.ensures.setting, done, c.deref.ensures.value) at c.refresh_consumers.ensures.consumers)
     (rw (c.finish_at.ensures.setting, c.deref.ensures.value) at c.refresh_consumers.ensures.others))
@@ -86,7 +89,8 @@ returns-clause-event c =
     let task = c.task_at-task.result in
     let among = taken_among f.room.clock.dues c.take_first.new.self.dues next c.in_ok-next.ensures.dues in
     let first = c.in_ok-next.ensures.first in
-    let time = due_time long k.setting k.safe c.self.invariant next among first ∙ ap (task_entry f.room.dues.items) (sym c.task_at-task.ensures) in
+    let time = due_time long k.setting k.safe c.self.invariant next among first
+    ∙ ap (task_entry f.room.dues.items) (sym c.task_at-task.ensures) in
     let event : ℕ → Event = λ t. record { time = t; kind = Finish; task = task } in
     rw (← c.self.view_is) (ap event time)
 

@@ -11,4 +11,5 @@ invariant_of-self c =
     let number : IsNumber c.args.task (length f.spots.items) = rw (← c.self.view_is) at c.requires.number in
     let room : length (take f.many f.slots.items) < length f.slots.items = rw (← c.self.view_is) at c.requires.room in
     let fresh : stands_in (take f.many f.slots.items) c.args.task ≡ false = rw (← c.self.view_is) at c.requires.fresh in
-    spots_added f.many f.slots.items f.spots.items c.self.invariant c.args.task number (omega (arith, room, length-take f.many f.slots.items, c.self.invariant.within)) fresh
+    spots_added f.many f.slots.items f.spots.items c.self.invariant c.args.task number
+    (omega (arith, room, length-take f.many f.slots.items, c.self.invariant.within)) fresh

@@ -32,8 +32,10 @@ invariant_of-self c =
     let n = number_listed f.many f.slots.items f.spots.items c.self.invariant c.args.task listed in
     let spot = number_read f.spots.items c.args.task c.index.result.now n.0 n.1 c.index.ensures in
     let within = (spot_of f.many f.slots.items f.spots.items c.self.invariant c.args.task listed).0 in
-    let last : c.index-last.result.now ≡ get_or f.slots.items (f.many - 1) 0 = get_or_read f.slots.items (f.many - 1) c.index-last.result.now (omega (arith, within, c.self.invariant.within)) c.index-last.ensures 0 in
-    spots_removed f.many f.slots.items f.spots.items c.self.invariant c.args.task c.index.result.now c.index-last.result.now listed spot last
+    let last : c.index-last.result.now ≡ get_or f.slots.items (f.many - 1) 0 = get_or_read f.slots.items
+    (f.many - 1) c.index-last.result.now (omega (arith, within, c.self.invariant.within)) c.index-last.ensures 0 in
+    spots_removed f.many f.slots.items f.spots.items c.self.invariant
+    c.args.task c.index.result.now c.index-last.result.now listed spot last
 
 pub returns-clause-members : goal.returns-clause-members
 returns-clause-members c =
@@ -42,5 +44,8 @@ returns-clause-members c =
     let n = number_listed f.many f.slots.items f.spots.items c.self.invariant c.args.task listed in
     let spot = number_read f.spots.items c.args.task c.index.result.now n.0 n.1 c.index.ensures in
     let within = (spot_of f.many f.slots.items f.spots.items c.self.invariant c.args.task listed).0 in
-    let last : c.index-last.result.now ≡ get_or f.slots.items (f.many - 1) 0 = get_or_read f.slots.items (f.many - 1) c.index-last.result.now (omega (arith, within, c.self.invariant.within)) c.index-last.ensures 0 in
-    rw (← c.self.view_is) (members_removed f.many f.slots.items f.spots.items c.self.invariant c.args.task c.index.result.now c.index-last.result.now listed spot last)
+    let last : c.index-last.result.now ≡ get_or f.slots.items (f.many - 1) 0 = get_or_read f.slots.items
+    (f.many - 1) c.index-last.result.now (omega (arith, within, c.self.invariant.within)) c.index-last.ensures 0 in
+    rw (← c.self.view_is)
+    (members_removed f.many f.slots.items f.spots.items c.self.invariant
+    c.args.task c.index.result.now c.index-last.result.now listed spot last)

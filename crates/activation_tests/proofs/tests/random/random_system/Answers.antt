@@ -7,7 +7,8 @@ use Rattle.std.specs.List.{AllByRecursion}
 use Rattle.activation_tests.proofs.SmallSystems.{IsSmallTask, IsSmallItem, small_item, small_system}
 use Rattle.activation_tests.proofs.tests.random.random_system.Goals as goal
 
-item : {x : Item} {a b : ℕ} → x.size < 10 → ForSome x.from (λ t. t ≡ a) → ForSome x.to (λ t. t ≡ b) → 1 ≤ a → a < b → b ≤ 5 → IsSmallItem 5 x
+item : {x : Item} {a b : ℕ} → x.size < 10 → ForSome x.from (λ t. t ≡ a)
+    → ForSome x.to (λ t. t ≡ b) → 1 ≤ a → a < b → b ≤ 5 → IsSmallItem 5 x
 item {x} {a} {b} size from to low less high = small_item x a b size from to low less 5 high
 
 pub new-requires : goal.new-requires
@@ -23,13 +24,21 @@ new-requires c =
     let i4 = c.random_item-4.ensures in
     let i5 = c.random_item-5.ensures in
     let i6 = c.random_item-6.ensures in
-    let tasks : List Task = c.random_task.result ∷ c.random_task-2.result ∷ c.random_task-3.result ∷ c.random_task-4.result ∷ c.random_task-5.result ∷ [] in
-    let items : List Item = c.random_item.result ∷ c.random_item-2.result ∷ c.random_item-3.result ∷ c.random_item-4.result ∷ c.random_item-5.result ∷ c.random_item-6.result ∷ [] in
+    let tasks : List Task =
+    c.random_task.result ∷ c.random_task-2.result ∷ c.random_task-3.result ∷ c.random_task-4.result ∷ c.random_task-5.result ∷ [] in
+    let items : List Item = c.random_item.result ∷ c.random_item-2.result ∷ c.random_item-3.result
+    ∷ c.random_item-4.result ∷ c.random_item-5.result ∷ c.random_item-6.result ∷ [] in
     let small : AllByRecursion IsSmallTask tasks = (
       record { extra = t.extra; share = t.share; time = t.time },
       (
         record { extra = t2.extra; share = t2.share; time = t2.time },
-        (record { extra = t3.extra; share = t3.share; time = t3.time }, (record { extra = t4.extra; share = t4.share; time = t4.time }, (record { extra = t5.extra; share = t5.share; time = t5.time }, tt))),
+        (
+          record { extra = t3.extra; share = t3.share; time = t3.time },
+          (
+            record { extra = t4.extra; share = t4.share; time = t4.time },
+            (record { extra = t5.extra; share = t5.share; time = t5.time }, tt),
+          ),
+        ),
       ),
     ) in
     let small' : AllByRecursion (IsSmallItem 5) items = (
@@ -49,4 +58,5 @@ new-requires c =
       ),
     ) in
     rw (c.in_ok-tasks.ensures.items, c.in_ok-items.ensures.items)
-    (small_system tasks items (omega arith) (omega arith) (All-from_recursion IsSmallTask tasks small) (All-from_recursion (IsSmallItem 5) items small'))
+    (small_system tasks items (omega arith) (omega arith)
+    (All-from_recursion IsSmallTask tasks small) (All-from_recursion (IsSmallItem 5) items small'))

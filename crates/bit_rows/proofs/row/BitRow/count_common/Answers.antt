@@ -23,6 +23,9 @@ returns c =
     let lens : g.len ≡ f.len = omega (arith, c.requires, same, same', row_length f.len f.words.items, row_length g.len g.words.items) in
     let past = c.self.invariant.past in
     let counted = c.count_common_bits.ensures f.len (rw c.deref.ensures.value past) in
-    let all = count_bits f.len f.words.items g.words.items c.self.invariant (subst (λ n. IsBitRow n g.words.items) lens c.other.invariant) in
+    let all =
+    count_bits f.len f.words.items g.words.items c.self.invariant (subst (λ n. IsBitRow n g.words.items) lens c.other.invariant) in
     rw (← c.self.view_is, ← c.other.view_is, lens)
-    (counted ∙ ap₂ (λ a b. count_by (λ x. word_bit a x && word_bit b x) (range_with_len 0 f.len)) c.deref.ensures.value c.deref-2.ensures.value ∙ all)
+    (counted
+    ∙ ap₂ (λ a b. count_by (λ x. word_bit a x && word_bit b x) (range_with_len 0 f.len)) c.deref.ensures.value c.deref-2.ensures.value
+    ∙ all)

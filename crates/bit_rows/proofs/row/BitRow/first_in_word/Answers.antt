@@ -9,7 +9,11 @@ lowest_bit-requires-clause-few c = omega (arith, ap length c.deref.ensures.value
 pub lowest_bit-requires-clause-within : goal.lowest_bit-requires-clause-within
 lowest_bit-requires-clause-within c =
     let f = c.self.inside in
-    omega (arith, ap length c.deref.ensures.value, word_stands f.len f.words.items c.self.invariant c.args.word (rw c.self.view_is c.requires))
+    omega (
+      arith,
+      ap length c.deref.ensures.value,
+      word_stands f.len f.words.items c.self.invariant c.args.word (rw c.self.view_is c.requires),
+    )
 
 pub lowest_bit-requires-clause-some : goal.lowest_bit-requires-clause-some
 lowest_bit-requires-clause-some c =

@@ -26,4 +26,5 @@ returns c =
     let within : c.args.x < f.len = omega (arith, c.requires, same, row_length f.len f.words.items) in
     let w : length c.set_bit.new.words ≡ f.words.len = omega (arith, c.set_bit.auto.words, c.deref_mut.ensures.len) in
     rw (← c.self.view_is, take_at c.set_bit.new.words (drop (length c.set_bit.new.words) f.words.items) f.words.len w)
-    (row_put f.len f.words.items c.set_bit.new.words c.args.x true within c.set_bit.ensures.set (rw c.deref_mut.ensures.value at c.set_bit.ensures.others))
+    (row_put f.len f.words.items c.set_bit.new.words c.args.x true within c.set_bit.ensures.set
+    (rw c.deref_mut.ensures.value at c.set_bit.ensures.others))

@@ -26,4 +26,5 @@ returns c =
     let within : c.args.x < f.len = omega (arith, c.requires, same, row_length f.len f.words.items) in
     let w : length c.clear_bit.new.words ≡ f.words.len = omega (arith, c.clear_bit.auto.words, c.deref_mut.ensures.len) in
     rw (← c.self.view_is, take_at c.clear_bit.new.words (drop (length c.clear_bit.new.words) f.words.items) f.words.len w)
-    (row_put f.len f.words.items c.clear_bit.new.words c.args.x false within c.clear_bit.ensures.cleared (rw c.deref_mut.ensures.value at c.clear_bit.ensures.others))
+    (row_put f.len f.words.items c.clear_bit.new.words c.args.x false within c.clear_bit.ensures.cleared
+    (rw c.deref_mut.ensures.value at c.clear_bit.ensures.others))

@@ -28,8 +28,13 @@ up-preserved-then-next-j c =
       ancestors = λ first spans can.
           let s = i.ancestors first spans can in
           let n = length c.args.self.now.table.items in
-          let k = climbed first n c.args.column c.args.j z c.index-next.result.now (slice_index table) next spans s.0 low c.up-test.true s.1 s.2 (omega arith) in
-          (doubled_at first n c.args.j table z c.index-next.result.now c.index.result.now place next far spans s.0 (omega arith) c.if-next-j.true, k.0, k.1);
+          let k = climbed first n c.args.column c.args.j z c.index-next.result.now
+          (slice_index table) next spans s.0 low c.up-test.true s.1 s.2 (omega arith) in (
+            doubled_at first n c.args.j table z c.index-next.result.now c.index.result.now place next far spans s.0
+                (omega arith) c.if-next-j.true,
+            k.0,
+            k.1,
+          );
     }
 
 pub up-preserved : goal.up-preserved
@@ -52,6 +57,7 @@ up-preserved c =
       inside = i.inside;
       ancestors = λ first spans can.
           let s = i.ancestors first spans can in
-          let k = climbed first (length c.args.self.now.table.items) c.args.column c.args.j z c.index-next.result.now (slice_index table) next spans s.0 low c.up-test.true s.1 s.2 (omega arith) in
+          let k = climbed first (length c.args.self.now.table.items) c.args.column c.args.j z c.index-next.result.now
+          (slice_index table) next spans s.0 low c.up-test.true s.1 s.2 (omega arith) in
           (s.0, k.0, k.1);
     }

@@ -23,7 +23,8 @@ loop-column-preserved c = λ count each.
     let b = read_at t.leaves.items (first - 1) c.index-in-loop-column.result.now (omega arith) c.index-in-loop-column.ensures in
     let d = read_at t.meetings.items x c.index-in-loop-column-2.result.now (omega arith) c.index-in-loop-column-2.ensures in
     let e = read_at t.meetings.items (first - 1) c.index-in-loop-column-3.result.now (omega arith) c.index-in-loop-column-3.ensures in
-    let value : (c.index.result.now - c.index-in-loop-column.result.now) - (c.index-in-loop-column-2.result.now - c.index-in-loop-column-3.result.now) - (x - first) ≡ count x = omega arith in
+    let value : (c.index.result.now - c.index-in-loop-column.result.now)
+    - (c.index-in-loop-column-2.result.now - c.index-in-loop-column-3.result.now) - (x - first) ≡ count x = omega arith in
     c.in_ok-push.ensures.items ∙ ap (λ (v : ℕ). c.loop-column.counts.items ++ v ∷ []) value
     ∙ ap (λ (xs : List ℕ). xs ++ count x ∷ []) (c.loop-column.invariant count each) ∙ sym (map_to count x (omega arith))
 

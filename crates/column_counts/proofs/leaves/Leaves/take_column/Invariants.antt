@@ -6,5 +6,6 @@ abbrev pub invariant-loop-vertex : goal.invariant-loop-vertex
 invariant-loop-vertex l = record {
   ready : AreReady l.firsts l.j l.self;
   small : AreAtMost (growth (l.j - 1) + 1 + l.vertex-index) l.self;
-  leaves : (joined : ℕ → ℕ → Bool) → CanTakeColumn joined l.firsts l.row l.perm l.j l.fn.self → AreLeavesWith joined l.firsts l.row l.perm l.j l.vertex-index l.self;
+  leaves : (joined : ℕ → ℕ → Bool) → CanTakeColumn joined l.firsts l.row l.perm l.j l.fn.self
+      → AreLeavesWith joined l.firsts l.row l.perm l.j l.vertex-index l.self;
 }

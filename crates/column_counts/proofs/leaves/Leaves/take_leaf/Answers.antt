@@ -23,8 +23,10 @@ returns-then-firsts-j-clause-taken c = λ from taken st.
     let here : last_of order t i ≡ slice_index t.last.items v = ap (slice_index t.last.items) back in
     let leaf = read_at t.last.items v c.index-leaf.result.now (omega arith) c.index-leaf.ensures in
     let under : slice_index c.args.firsts.now c.args.j ≤ last_of order t i = omega (arith, c.if-firsts-j.true) in
-    no_leaf (slice_index c.args.firsts.now) (length c.args.firsts.now) c.args.j i inside (omega (arith, p.0, c.requires.spans.own c.args.j)) taken
-    (last_of order t) (slice_index t.leaves.items) (slice_index t.meetings.items) c.requires.spans.nested c.requires.spans.own st (omega (arith, p.0)) under
+    no_leaf (slice_index c.args.firsts.now) (length c.args.firsts.now) c.args.j i inside
+    (omega (arith, p.0, c.requires.spans.own c.args.j)) taken
+    (last_of order t) (slice_index t.leaves.items)
+    (slice_index t.meetings.items) c.requires.spans.nested c.requires.spans.own st (omega (arith, p.0)) under
 
 pub overflow_add-index_mut : goal.overflow_add-index_mut
 overflow_add-index_mut c =
@@ -63,7 +65,8 @@ returns-then-leaf-eq0-clause-taken c = λ from taken st.
     (ap (slice_index (set t.last.items v j)) back ∙ at_here t.last.items v j (omega arith))
     (λ x ne. at_other t.last.items v j (vertex_at order x)
     (other_vertex order place_back v (omega arith) x ne))
-    (at_here t.leaves.items j more (omega arith) ∙ ap (λ v. v + 1) count) (at_other t.leaves.items j more) (here ∙ sym leaf ∙ c.if-leaf-eq0.true)
+    (at_here t.leaves.items j more (omega arith) ∙ ap (λ v. v + 1) count)
+    (at_other t.leaves.items j more) (here ∙ sym leaf ∙ c.if-leaf-eq0.true)
 
 pub overflow_add-index_mut-2 : goal.overflow_add-index_mut-2
 overflow_add-index_mut-2 c =
@@ -107,7 +110,8 @@ returns-clause-taken c = λ from taken st.
     let over : last_of order t i < first j = omega (arith, c.if-firsts-j.false) in
     let ancestors : AreAncestors first (length t.ancestors.table.items) j (slice_index t.ancestors.table.items) =
     subst (λ m. AreAncestors first m j (slice_index t.ancestors.table.items)) (sym long_ancestors) c.requires.ready.ancestors in
-    let met = c.least_common-meeting.ensures.found first c.requires.spans ancestors i from (omega arith) (omega (arith, c.requires.before some_there)) in
+    let met = c.least_common-meeting.ensures.found first c.requires.spans ancestors i from
+    (omega arith) (omega (arith, c.requires.before some_there)) in
     let start = met.from in
     let above : first q ≤ last_of order t i = omega (arith, met.above) in
     let place = c.least_common-meeting.ensures.place in
@@ -123,4 +127,5 @@ returns-clause-taken c = λ from taken st.
     (other_vertex order place_back v (omega arith) x ne))
     (at_here t.leaves.items j more (omega arith) ∙ ap (λ v. v + 1) count) (at_other t.leaves.items j more)
     some over q start above (λ z zn le f. met.least z (omega arith) le (omega arith))
-    (slice_index (set t.meetings.items q met_more)) (at_here t.meetings.items q met_more (omega arith) ∙ ap (λ v. v + 1) met_count) (at_other t.meetings.items q met_more)
+    (slice_index (set t.meetings.items q met_more))
+    (at_here t.meetings.items q met_more (omega arith) ∙ ap (λ v. v + 1) met_count) (at_other t.meetings.items q met_more)

@@ -17,7 +17,8 @@ insert-requires c = place c.requires.0 c.args.self.now c.args.v c.requires.1 c.r
 
 pub returns-clause-put : goal.returns-clause-put
 returns-clause-put c =
-    put_own c.args.self.now.alive c.insert.new.self c.args.v true c.insert.ensures (place c.requires.0 c.args.self.now c.args.v c.requires.1 c.requires.2)
+    put_own c.args.self.now.alive c.insert.new.self c.args.v true c.insert.ensures
+    (place c.requires.0 c.args.self.now c.args.v c.requires.1 c.requires.2)
 
 pub returns-clause-others : goal.returns-clause-others
 returns-clause-others c = put_others c.args.self.now.alive c.insert.new.self c.args.v true c.insert.ensures

@@ -6,7 +6,8 @@ use Rattle.hill_valley.proofs.row.Row.insert.Goals as goal
 
 pub joined-requires-clause-own : goal.joined-requires-clause-own
 joined-requires-clause-own c =
-    there_rope c.args.ropes.now c.args.seg.up c.place_of-at.result c.args.self.now c.in-Some.own (rw c.self.view_is at c.in-Some.ensures.own) c.requires.ropes
+    there_rope c.args.ropes.now c.args.seg.up c.place_of-at.result c.args.self.now c.in-Some.own
+    (rw c.self.view_is at c.in-Some.ensures.own) c.requires.ropes
 
 pub joined-requires-clause-net : goal.joined-requires-clause-net
 joined-requires-clause-net c =
@@ -25,19 +26,24 @@ index_mut-requires c =
 
 pub invariant_of-self : goal.invariant_of-self
 invariant_of-self c =
-    let runs = there_runs c.args.ropes.now c.joined.new.ropes c.joined.ensures.kept c.args.before c.args.seg c.in-Some.own c.in_ok-whole-in-Some.whole c.in_ok-whole-in-Some.ensures.run
+    let runs = there_runs c.args.ropes.now c.joined.new.ropes c.joined.ensures.kept c.args.before
+    c.args.seg c.in-Some.own c.in_ok-whole-in-Some.whole c.in_ok-whole-in-Some.ensures.run
     c.place_of-at.result c.self.inside.segments.items c.args.self.now c.self.view_is c.in-Some.ensures.own c.requires.ropes in
-    side_after _ _ _ (profile_put c.args.ropes.now c.joined.new.ropes c.args.before c.args.seg c.args.self.now _ runs) (rw c.self.view_is at c.self.invariant) c.inserting.ensures.net c.inserting.ensures.rising c.requires.up c.requires.net
+    side_after _ _ _ (profile_put c.args.ropes.now c.joined.new.ropes c.args.before c.args.seg c.args.self.now _ runs)
+    (rw c.self.view_is at c.self.invariant) c.inserting.ensures.net c.inserting.ensures.rising c.requires.up c.requires.net
 
 pub invariant_of-self-in-Continue-branch-2 : goal.invariant_of-self-in-Continue-branch-2
 invariant_of-self-in-Continue-branch-2 c =
-    let runs = gap_runs c.args.ropes.now c.args.before c.args.seg c.place_of-at.result c.self.inside.segments.items c.args.self.now c.insert.new.self.items c.self.view_is c.in-None.ensures.own
+    let runs = gap_runs c.args.ropes.now c.args.before c.args.seg c.place_of-at.result
+    c.self.inside.segments.items c.args.self.now c.insert.new.self.items c.self.view_is c.in-None.ensures.own
     c.in_ok-insert-in-None.ensures.items in
-    side_after _ _ _ (profile_put c.args.ropes.now c.args.ropes.now c.args.before c.args.seg c.args.self.now _ runs) (rw c.self.view_is at c.self.invariant) c.inserting.ensures.net c.inserting.ensures.rising c.requires.up c.requires.net
+    side_after _ _ _ (profile_put c.args.ropes.now c.args.ropes.now c.args.before c.args.seg c.args.self.now _ runs)
+    (rw c.self.view_is at c.self.invariant) c.inserting.ensures.net c.inserting.ensures.rising c.requires.up c.requires.net
 
 pub returns-in_ok-whole-in-Some-clause-segments : goal.returns-in_ok-whole-in-Some-clause-segments
 returns-in_ok-whole-in-Some-clause-segments c =
-    there_runs c.args.ropes.now c.joined.new.ropes c.joined.ensures.kept c.args.before c.args.seg c.in-Some.own c.in_ok-whole-in-Some.whole c.in_ok-whole-in-Some.ensures.run
+    there_runs c.args.ropes.now c.joined.new.ropes c.joined.ensures.kept c.args.before
+    c.args.seg c.in-Some.own c.in_ok-whole-in-Some.whole c.in_ok-whole-in-Some.ensures.run
     c.place_of-at.result c.self.inside.segments.items c.args.self.now c.self.view_is c.in-Some.ensures.own c.requires.ropes
 
 pub returns-in_ok-whole-in-Some-clause-ropes : goal.returns-in_ok-whole-in-Some-clause-ropes
@@ -47,5 +53,6 @@ returns-in_ok-whole-in-Some-clause-ropes c =
 
 pub returns-in_ok-insert-in-None-clause-segments : goal.returns-in_ok-insert-in-None-clause-segments
 returns-in_ok-insert-in-None-clause-segments c =
-    gap_runs c.args.ropes.now c.args.before c.args.seg c.place_of-at.result c.self.inside.segments.items c.args.self.now c.insert.new.self.items c.self.view_is c.in-None.ensures.own
+    gap_runs c.args.ropes.now c.args.before c.args.seg c.place_of-at.result c.self.inside.segments.items
+    c.args.self.now c.insert.new.self.items c.self.view_is c.in-None.ensures.own
     c.in_ok-insert-in-None.ensures.items

@@ -7,5 +7,6 @@ use Rattle.hill_valley.proofs.row.Row.push_numbers.Given as goal
 
 abbrev pub invariant-loop-seg : goal.invariant-loop-seg
 invariant-loop-seg l = record {
-  numbering : Numbering l.stop (segments_listed l.fn.numbers.items ++ first_down_to l.stop l.level (profile l.self)) l.at (profile (deque_iter_rest l.seg-iterator)) l.numbers.items;
+  numbering : Numbering l.stop (segments_listed l.fn.numbers.items ++ first_down_to l.stop l.level (profile l.self)) l.at
+      (profile (deque_iter_rest l.seg-iterator)) l.numbers.items;
 }

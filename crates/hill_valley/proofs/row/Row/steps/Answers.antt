@@ -8,7 +8,9 @@ use Rattle.hill_valley.proofs.row.Row.steps.Goals as goal
 pub loop-seg-preserved-in-Continue-1 : goal.loop-seg-preserved-in-Continue-1
 loop-seg-preserved-in-Continue-1 c = record {
   walk = walk_on _ _ _ _ (row_next _ _ _ c.in-Some.ensures.steps) c.loop-seg.invariant.walk;
-  told = rw c.in_ok-add_step.ensures (rw c.max-most.ensures (walk_falls _ _ _ _ (row_next _ _ _ c.in-Some.ensures.steps) c.loop-seg.most c.loop-seg.steps.items c.if-seg-gt0.true c.loop-seg.invariant.walk)) ∙ c.loop-seg.invariant.told;
+  told = rw c.in_ok-add_step.ensures (rw c.max-most.ensures (walk_falls _ _ _ _
+      (row_next _ _ _ c.in-Some.ensures.steps) c.loop-seg.most c.loop-seg.steps.items c.if-seg-gt0.true c.loop-seg.invariant.walk))
+      ∙ c.loop-seg.invariant.told;
 }
 
 pub returns : goal.returns

@@ -35,9 +35,11 @@ told c =
     ap (λ l. max (last_up l) c.args.up) h ∙ ap (λ n. max n c.args.up) (sym c.last_up.ensures.value) ∙ sym c.max.ensures in
     rw (e, m) c.insert.ensures.segments
 
-appended : (c : goal.After-insert) → OnOk c.insert.result (profile c.insert.new.self ≡ append_segment c.args.up c.args.down (profile c.args.self.now))
+appended : (c : goal.After-insert)
+    → OnOk c.insert.result (profile c.insert.new.self ≡ append_segment c.args.up c.args.down (profile c.args.self.now))
 appended c = on_ok_weaker c.insert.result
-    (λ e. sym (profile_runs c.insert.new.ropes c.insert.new.self) ∙ ap run_profile e ∙ profile_append (added c) (before c) ∙ ap (append_segment c.args.up c.args.down) (profile_runs c.args.ropes.now c.args.self.now))
+    (λ e. sym (profile_runs c.insert.new.ropes c.insert.new.self) ∙ ap run_profile e ∙ profile_append (added c) (before c)
+    ∙ ap (append_segment c.args.up c.args.down) (profile_runs c.args.ropes.now c.args.self.now))
     (told c)
 
 pub returns-clause-segments : goal.returns-clause-segments
@@ -47,7 +49,10 @@ pub returns-clause-tasks : goal.returns-clause-tasks
 returns-clause-tasks c = on_ok_weaker c.insert.result (λ e. ap tasks_of e ∙ tasks_append (added c) (before c)) (told c)
 
 pub returns-clause-lowest : goal.returns-clause-lowest
-returns-clause-lowest c = on_ok_weaker c.insert.result (λ e limit level room. ap (lowest limit level) e ∙ c.appending.ensures.lowest limit level c.args.up c.args.down (profile c.args.self.now) room) (appended c)
+returns-clause-lowest c = on_ok_weaker c.insert.result
+    (λ e limit level room. ap (lowest limit level) e
+    ∙ c.appending.ensures.lowest limit level c.args.up c.args.down (profile c.args.self.now) room) (appended c)
 
 pub returns-clause-top : goal.returns-clause-top
-returns-clause-top c = on_ok_weaker c.insert.result (λ e level room. ap (top level) e ∙ c.appending.ensures.top level c.args.up c.args.down (profile c.args.self.now) room) (appended c)
+returns-clause-top c = on_ok_weaker c.insert.result
+    (λ e level room. ap (top level) e ∙ c.appending.ensures.top level c.args.up c.args.down (profile c.args.self.now) room) (appended c)

@@ -15,13 +15,18 @@ loop-up-init c =
     }
 
 pub overflow_add-at : goal.overflow_add-at
-overflow_add-at c = let f = walk_first _ _ _ _ (seen_next _ _ _ _ c.in-Some.ensures.steps) c.loop-up.invariant.walk in let w = c.loop-up.invariant.walk.low in omega arith
+overflow_add-at c = let f = walk_first _ _ _ _ (seen_next _ _ _ _ c.in-Some.ensures.steps) c.loop-up.invariant.walk in
+    let w = c.loop-up.invariant.walk.low in
+    omega arith
 
 pub overflow_sub-at : goal.overflow_sub-at
 overflow_sub-at c = let f = walk_first _ _ _ _ (seen_next _ _ _ _ c.in-Some.ensures.steps) c.loop-up.invariant.walk in omega arith
 
 pub returns-then-limit-at : goal.returns-then-limit-at
-returns-then-limit-at c = record { lowest = sym (walk_stays _ _ _ _ (seen_next _ _ _ _ c.in-Some.ensures.steps) c.args.limit c.if-limit-at.true) ∙ c.loop-up.invariant.told }
+returns-then-limit-at c = record {
+  lowest =
+      sym (walk_stays _ _ _ _ (seen_next _ _ _ _ c.in-Some.ensures.steps) c.args.limit c.if-limit-at.true) ∙ c.loop-up.invariant.told;
+}
 
 pub returns-in-None : goal.returns-in-None
 returns-in-None c =

@@ -11,10 +11,12 @@ loop-up-init c =
 
 pub overflow_sub-at : goal.overflow_sub-at
 overflow_sub-at c =
-    let f = numbering_fits _ _ _ _ _ c.loop-up.invariant.numbering (record { up = c.in-Some.up.now; net = c.in-Some.descent.now.net }) _ (seen_next _ _ _ _ c.in-Some.ensures.steps) in
+    let f = numbering_fits _ _ _ _ _ c.loop-up.invariant.numbering
+    (record { up = c.in-Some.up.now; net = c.in-Some.descent.now.net }) _ (seen_next _ _ _ _ c.in-Some.ensures.steps) in
     omega arith
 
 pub loop-up-preserved : goal.loop-up-preserved
 loop-up-preserved c = record {
-  numbering = numbering_on _ _ _ _ _ c.loop-up.invariant.numbering _ _ (seen_next _ _ _ _ c.in-Some.ensures.steps) c.if-at-stop.false _ c.in_ok-push.ensures.items;
+  numbering = numbering_on _ _ _ _ _ c.loop-up.invariant.numbering _ _
+      (seen_next _ _ _ _ c.in-Some.ensures.steps) c.if-at-stop.false _ c.in_ok-push.ensures.items;
 }

@@ -7,5 +7,6 @@ use Rattle.hill_valley.proofs.tree.Tree.push_numbers.Given as goal
 
 abbrev pub invariant-loop-up : goal.invariant-loop-up
 invariant-loop-up l = record {
-  numbering : Numbering l.stop (segments_listed l.fn.numbers.items ++ first_down_to l.stop l.level (profile l.self)) l.at (profile (segs_of l.up-iterator)) l.numbers.items;
+  numbering : Numbering l.stop (segments_listed l.fn.numbers.items ++ first_down_to l.stop l.level (profile l.self)) l.at
+      (profile (segs_of l.up-iterator)) l.numbers.items;
 }

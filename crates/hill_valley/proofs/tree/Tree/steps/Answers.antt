@@ -10,7 +10,9 @@ use Rattle.hill_valley.proofs.tree.Tree.steps.Goals as goal
 pub loop-up-preserved-in-Continue-1 : goal.loop-up-preserved-in-Continue-1
 loop-up-preserved-in-Continue-1 c = record {
   walk = walk_on _ _ _ _ (seen_next _ _ _ _ c.in-Some.ensures.steps) c.loop-up.invariant.walk;
-  told = rw c.in_ok-add_step.ensures (rw c.max-most.ensures (walk_falls _ _ _ _ (seen_next _ _ _ _ c.in-Some.ensures.steps) c.loop-up.most c.loop-up.steps.items c.if-descent-gt0.true c.loop-up.invariant.walk)) ∙ c.loop-up.invariant.told;
+  told = rw c.in_ok-add_step.ensures (rw c.max-most.ensures (walk_falls _ _ _ _
+      (seen_next _ _ _ _ c.in-Some.ensures.steps) c.loop-up.most c.loop-up.steps.items c.if-descent-gt0.true c.loop-up.invariant.walk))
+      ∙ c.loop-up.invariant.told;
 }
 
 pub returns : goal.returns

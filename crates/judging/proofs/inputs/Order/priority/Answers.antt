@@ -7,7 +7,8 @@ use Rattle.judging.proofs.inputs.Order.priority.Goals as goal
 
 pub returns-in-Listed-clause-each : goal.returns-in-Listed-clause-each
 returns-in-Listed-clause-each c = λ system traversal.
-    subst (HoldsEach system) (sym c.deref.ensures.value) (of_traversal system c.in-Listed.numbers.items (subst (IsTraversal system) (ap order_tasks c.in-Listed.is) traversal))
+    subst (HoldsEach system) (sym c.deref.ensures.value)
+    (of_traversal system c.in-Listed.numbers.items (subst (IsTraversal system) (ap order_tasks c.in-Listed.is) traversal))
 
 pub returns-in-Planned-clause-each : goal.returns-in-Planned-clause-each
 returns-in-Planned-clause-each c = λ system traversal.

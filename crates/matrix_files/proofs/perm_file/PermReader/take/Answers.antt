@@ -9,4 +9,6 @@ unfolding vertex_step
 returns-in_err-vertex c =
     let p = err_from_is_err_and c.from_residual.result c.from_residual.ensures.1 in
     let s = c.args.self.now in
-    rw (p.1, p.2) (Fails-tested (perm_token_tests s.n c.args.line s.numbers c.args.token.now) _ _ c.in_err-vertex.field-0.0 c.in_err-vertex.ensures.vertex)
+    rw (p.1, p.2)
+    (Fails-tested (perm_token_tests s.n c.args.line s.numbers c.args.token.now)
+    _ _ c.in_err-vertex.field-0.0 c.in_err-vertex.ensures.vertex)

@@ -10,5 +10,6 @@ pub returns : goal.returns
 returns c before taken passed =
     let s = c.args.self.now in
     let r = row c.args.line.number c.args.line.text.now in
-    Steps-judge ((perm_format s.n).line_tests before r) (λ next. took_perm next (before ++ r ∷ []) × (perm_format next.n ≡ perm_format s.n)) (perm_step s r) _ _
+    Steps-judge ((perm_format s.n).line_tests before r)
+    (λ next. took_perm next (before ++ r ∷ []) × (perm_format next.n ≡ perm_format s.n)) (perm_step s r) _ _
     (perm_follows s before r taken passed) c.take_line.ensures

@@ -10,7 +10,8 @@ invariant_of-result c =
     let n = length c.tasks.result.now in
     let ran_are : c.in_ok-ran.ran.items ≡ replicate n false = search (rules, c.in_ok-ran.ensures) in
     let memory_is = c.start_memory-memory.ensures ∙ ap (size_where (is_present (λ _. false))) c.items.ensures.value in
-    subst (λ (system : TaskSystem). IsReplay system c.in_ok-ran.ran.items c.in_ok-outputs.outputs.items c.in_ok-inputs.inputs c.start_memory-memory.result) (sym c.of.ensures)
+    subst (λ (system : TaskSystem). IsReplay system c.in_ok-ran.ran.items c.in_ok-outputs.outputs.items
+    c.in_ok-inputs.inputs c.start_memory-memory.result) (sym c.of.ensures)
     (begins _ n ran_are c.args.system.now _ _ _ (ap length c.tasks.ensures.value) c.in_ok-outputs.ensures c.in_ok-inputs.ensures memory_is)
 
 pub returns-clause-none : goal.returns-clause-none

@@ -13,8 +13,10 @@ loop-line-preserved c =
     let e = c.in-Some.ensures in
     let same = c.loop-line.invariant.layout in
     record {
-      past = past-more c.args.self.now c.loop-line.self c.raw.new.self c.in-Some.line.number c.in-Some.line.text.now c.loop-line.invariant.past e.line.0 e.line.1 e.next.0 e.next.1
-          (ap (λ (layout : Layout). is_passed layout c.in-Some.line.number (tokens_of c.in-Some.line.text.now)) (sym same) ∙ sym c.if-not-is_passed.ensures);
+      past = past-more c.args.self.now c.loop-line.self c.raw.new.self c.in-Some.line.number
+          c.in-Some.line.text.now c.loop-line.invariant.past e.line.0 e.line.1 e.next.0 e.next.1
+          (ap (λ (layout : Layout). is_passed layout c.in-Some.line.number (tokens_of c.in-Some.line.text.now)) (sym same)
+          ∙ sym c.if-not-is_passed.ensures);
       layout = same;
     }
 
@@ -22,8 +24,11 @@ pub returns-then-not-is_passed : goal.returns-then-not-is_passed
 returns-then-not-is_passed c =
     let e = c.in-Some.ensures in
     let past = c.loop-line.invariant.past in
-    let line = past-line c.args.self.now c.loop-line.self c.raw.new.self c.in-Some.line.number c.in-Some.line.text.now past e.line.0 e.line.1 e.next.0
-    (ap (λ (layout : Layout). is_passed layout c.in-Some.line.number (tokens_of c.in-Some.line.text.now)) (sym c.loop-line.invariant.layout) ∙ sym c.if-not-is_passed.ensures) in
+    let line = past-line c.args.self.now c.loop-line.self c.raw.new.self
+    c.in-Some.line.number c.in-Some.line.text.now past e.line.0 e.line.1 e.next.0
+    (ap (λ (layout : Layout). is_passed layout c.in-Some.line.number (tokens_of c.in-Some.line.text.now))
+    (sym c.loop-line.invariant.layout)
+    ∙ sym c.if-not-is_passed.ensures) in
     let layout = e.next.1 ∙ past.layout in
     record {
       line = line;

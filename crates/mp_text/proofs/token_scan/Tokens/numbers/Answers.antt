@@ -10,7 +10,11 @@ pub returns-in_err-values : goal.returns-in_err-values
 returns-in_err-values g c =
     let at = c.loop-i.invariant in
     let within = length-take-le c.loop-i.i c.loop-i.values (omega (arith, at.long)) in
-    rw c.from_residual.ensures (record { some = tt; none = goes-stops c.args.self c.loop-i.self (take c.loop-i.i c.loop-i.values) g.row.N at.goes c.in_err-values.ensures.number (omega (arith, within)) })
+    rw c.from_residual.ensures (record {
+      some = tt;
+      none = goes-stops c.args.self c.loop-i.self
+          (take c.loop-i.i c.loop-i.values) g.row.N at.goes c.in_err-values.ensures.number (omega (arith, within));
+    })
 
 pub loop-i-preserved : goal.loop-i-preserved
 loop-i-preserved g c =
@@ -25,13 +29,15 @@ loop-i-preserved g c =
 pub returns-in-Some : goal.returns-in-Some
 returns-in-Some g c =
     let at = c.loop-i.invariant in
-    let goes : Goes c.args.self c.loop-i.values c.loop-i.self = rw (take_all c.loop-i.i c.loop-i.values (omega (arith, at.long))) at at.goes in
+    let goes : Goes c.args.self c.loop-i.values c.loop-i.self =
+    rw (take_all c.loop-i.i c.loop-i.values (omega (arith, at.long))) at at.goes in
     let left = c.in-Some.ensures.steps in
     record { some = tt; none = goes-on c.args.self c.next.new.self c.in-Some.field-0.now c.loop-i.values g.row.N (rw left at goes) at.long }
 
 pub returns-in-None : goal.returns-in-None
 returns-in-None g c =
     let at = c.loop-i.invariant in
-    let goes : Goes c.args.self c.loop-i.values c.loop-i.self = rw (take_all c.loop-i.i c.loop-i.values (omega (arith, at.long))) at at.goes in
+    let goes : Goes c.args.self c.loop-i.values c.loop-i.self =
+    rw (take_all c.loop-i.i c.loop-i.values (omega (arith, at.long))) at at.goes in
     let left = c.in-None.ensures.steps.0 in
     record { some = (goes-ends c.args.self c.loop-i.values (rw left at goes), at.long); none = tt }

@@ -8,31 +8,42 @@ use Rattle.patterns.proofs.pattern.Pattern.from_pairs.Goals as goal
 
 pub partner_counts-requires-clause-few : goal.partner_counts-requires-clause-few
 partner_counts-requires-clause-few c =
-    omega (arith, ap (λ (gs : List Group). length (pairs_in gs)) c.deref.ensures.value, length_permutation c.args.pairs.items (pairs_in c.in_ok-groups.groups.items) c.in_ok-groups.ensures, c.requires.few)
+    omega (
+      arith,
+      ap (λ (gs : List Group). length (pairs_in gs)) c.deref.ensures.value,
+      length_permutation c.args.pairs.items (pairs_in c.in_ok-groups.groups.items) c.in_ok-groups.ensures,
+      c.requires.few,
+    )
 
 pub partner_counts-requires-clause-below : goal.partner_counts-requires-clause-below
 partner_counts-requires-clause-below c =
     let P = IsPairBelow (c.args.order + 1) in
     subst (λ (gs : List Group). All P (pairs_in gs)) (sym c.deref.ensures.value)
-    (All-permutation P c.args.pairs.items (pairs_in c.in_ok-groups.groups.items) c.in_ok-groups.ensures (below_from_within c.args.order c.args.pairs.items c.requires.within))
+    (All-permutation P c.args.pairs.items (pairs_in c.in_ok-groups.groups.items) c.in_ok-groups.ensures
+    (below_from_within c.args.order c.args.pairs.items c.requires.within))
 
 pub partner_lists-requires-clause-below : goal.partner_lists-requires-clause-below
 partner_lists-requires-clause-below c =
     let count : length c.deref-2.result.now ≡ c.args.order + 1 = ap length c.deref-2.ensures.value ∙ c.in_ok-counts.ensures.len in
     let P = IsPairBelow (c.args.order + 1) in
     subst (λ (n : ℕ). All (IsPairBelow n) (pairs_in c.in_ok-groups.groups.items)) (sym count)
-    (All-permutation P c.args.pairs.items (pairs_in c.in_ok-groups.groups.items) c.in_ok-groups.ensures (below_from_within c.args.order c.args.pairs.items c.requires.within))
+    (All-permutation P c.args.pairs.items (pairs_in c.in_ok-groups.groups.items) c.in_ok-groups.ensures
+    (below_from_within c.args.order c.args.pairs.items c.requires.within))
 
 pub invariant_of-result : goal.invariant_of-result
 invariant_of-result c =
     let count : length c.deref-2.result.now ≡ c.args.order + 1 = ap length c.deref-2.ensures.value ∙ c.in_ok-counts.ensures.len in
     let e = c.sort_lists.ensures in
-    (sorted_pattern c.args.order c.args.pairs.items (pairs_in c.in_ok-groups.groups.items) c.sort_lists.new.self c.requires.order c.requires.within c.in_ok-groups.ensures
-    (e.count ∙ c.in_ok-table.ensures.count ∙ count) e.rising (λ v x. e.same v x ∙ ap (λ (l : List ℕ). has l x) (c.in_ok-table.ensures.each v))).pattern
+    (sorted_pattern c.args.order c.args.pairs.items
+    (pairs_in c.in_ok-groups.groups.items) c.sort_lists.new.self c.requires.order c.requires.within c.in_ok-groups.ensures
+    (e.count ∙ c.in_ok-table.ensures.count ∙ count) e.rising
+    (λ v x. e.same v x ∙ ap (λ (l : List ℕ). has l x) (c.in_ok-table.ensures.each v))).pattern
 
 pub returns : goal.returns
 returns c =
     let count : length c.deref-2.result.now ≡ c.args.order + 1 = ap length c.deref-2.ensures.value ∙ c.in_ok-counts.ensures.len in
     let e = c.sort_lists.ensures in
-    sorted_pattern c.args.order c.args.pairs.items (pairs_in c.in_ok-groups.groups.items) c.sort_lists.new.self c.requires.order c.requires.within c.in_ok-groups.ensures
-    (e.count ∙ c.in_ok-table.ensures.count ∙ count) e.rising (λ v x. e.same v x ∙ ap (λ (l : List ℕ). has l x) (c.in_ok-table.ensures.each v))
+    sorted_pattern c.args.order c.args.pairs.items
+    (pairs_in c.in_ok-groups.groups.items) c.sort_lists.new.self c.requires.order c.requires.within c.in_ok-groups.ensures
+    (e.count ∙ c.in_ok-table.ensures.count ∙ count) e.rising
+    (λ v x. e.same v x ∙ ap (λ (l : List ℕ). has l x) (c.in_ok-table.ensures.each v))

@@ -30,12 +30,15 @@ returns-in_err-plan-clause-told g c =
     let refuses = λ (text : List ℕ). IsRefusedFile (codes "plan") plan_word (RefusesPlan text) text in
     passed c.from_residual-in_err-plan.result _ _ e c.from_residual-in_err-plan.ensures.1
     (stop_after (g.F.Files.bytes_of c.args.files.now) (g.F.Files.bytes_of c.judge_input.new.files) c.in_ok-problem.ensures.same
-    (g.F.Files.faults_of c.args.files.now) (g.F.Files.faults_of c.judge_input.new.files) (g.F.Files.faults_of c.judge.new.files) c.in_ok-problem.ensures.later
+    (g.F.Files.faults_of c.args.files.now) (g.F.Files.faults_of c.judge_input.new.files)
+    (g.F.Files.faults_of c.judge.new.files) c.in_ok-problem.ensures.later
     (input_files input) (λ texts are. problem_accepted input texts c.in_ok-problem.problem (c.in_ok-problem.ensures.judged texts are))
     (plan ∷ []) (omega arith) (λ texts answer. (earlier : List (List ℕ)) → IsFirstRefusal (plan ∷ []) earlier texts answer)
     (λ one two answer are more refused. refused one) e
-    (alone_stop (g.F.Files.bytes_of c.judge_input.new.files) (g.F.Files.faults_of c.judge_input.new.files) (g.F.Files.faults_of c.judge.new.files) plan refuses
-    (λ texts answer. (earlier : List (List ℕ)) → IsFirstRefusal (plan ∷ []) earlier texts answer) (λ text answer refused. λ earlier. inl refused) e c.in_err-plan.ensures.judged))
+    (alone_stop (g.F.Files.bytes_of c.judge_input.new.files)
+    (g.F.Files.faults_of c.judge_input.new.files) (g.F.Files.faults_of c.judge.new.files) plan refuses
+    (λ texts answer. (earlier : List (List ℕ)) → IsFirstRefusal (plan ∷ []) earlier texts answer)
+    (λ text answer refused. λ earlier. inl refused) e c.in_err-plan.ensures.judged))
 
 pub returns-clause-told : goal.returns-clause-told
 returns-clause-told g c =

@@ -18,7 +18,8 @@ returns-in_err-graph-clause-told g c =
     let file : NamedFile = record { role = graph_file; name = c.args.name.now } in
     let refuses = λ (text : List ℕ). IsRefusedFile (codes "graph") graph_word (RefusesGraph text) text in
     passed c.from_residual.result _ _ e c.from_residual.ensures.1
-    (alone_stop told before after file refuses (IsFirstRefusal (file ∷ []) []) (λ text answer refused. inl refused) e c.in_err-graph.ensures.judged)
+    (alone_stop told before after file refuses (IsFirstRefusal (file ∷ []) [])
+    (λ text answer refused. inl refused) e c.in_err-graph.ensures.judged)
 
 pub returns-clause-told : goal.returns-clause-told
 returns-clause-told g c =

@@ -11,6 +11,7 @@ returns c =
     let arcs = c.args.arcs.now in
     let first = codes "refused" ∷ codes "graph" ∷ codes "rest" ∷ decimal (length arcs) ∷ [] in
     ap (λ (text : List ℕ). record { status = status.NotSeriesParallel; text = text })
-    (framed_lines c.printed_lines.ensures.more first (codes "end" ∷ []) (map arc_line arcs) c.line.new.self c.print_arcs.new.report c.print_end.new.report
+    (framed_lines c.printed_lines.ensures.more first (codes "end" ∷ [])
+    (map arc_line arcs) c.line.new.self c.print_arcs.new.report c.print_end.new.report
     (c.in_ok-line.ensures.ok ∙ ap (λ (text : List ℕ). text ++ line_text first) c.new-report.ensures)
     c.in_ok-print_arcs.ensures.text c.in_ok-print_end.ensures)

@@ -25,7 +25,8 @@ loop-i-preserved c =
     let s = c.index-stairs-at.result in
     let s_is : s ≡ get_or stairs (k - 1) s = c.index-stairs-at.is ∙ ap (λ (j : ℕ). get_or stairs (j - 1) s) listed in
     record {
-      text = row_printed ps stairs numbered i h c.printed_lines.ensures.parts v s s few v_is s_is c.args.report.now c.loop-i.report c.print_both.new.report
+      text = row_printed ps stairs numbered i h c.printed_lines.ensures.parts v s
+          s few v_is s_is c.args.report.now c.loop-i.report c.print_both.new.report
           c.loop-i.invariant.text c.in_ok-print_both.ensures.text;
       start = c.in_ok-print_both.ensures.start;
     }

@@ -18,9 +18,11 @@ loop-step-preserved c =
     let i = c.loop-step.step-index in
     let within : i < length steps = c.loop-step-test.true in
     record {
-      text = step_printed number direction start steps i _ within c.args.report.now c.loop-step.report c.num-in-loop-step.new.self c.num-in-loop-step-2.new.self
+      text = step_printed number direction start steps i _ within c.args.report.now
+          c.loop-step.report c.num-in-loop-step.new.self c.num-in-loop-step-2.new.self
           c.loop-step.invariant.text c.in_ok-num-3.ensures.ok c.in_ok-num-4.ensures.ok;
-      are = step_tokens_are number direction start steps i _ within c.loop-step.invariant.are c.in_ok-num-3.ensures.token c.in_ok-num-4.ensures.token;
+      are = step_tokens_are number direction start steps i _ within
+          c.loop-step.invariant.are c.in_ok-num-3.ensures.token c.in_ok-num-4.ensures.token;
     }
 
 pub returns : goal.returns
@@ -34,6 +36,7 @@ returns c =
     let printed = ap (λ (t : List ℕ). t ++ 10 ∷ []) text ∙ c.printed_line.ensures.line old (line steps) c.requires.start are in
     record {
       start = on_ok_weaker c.end_line.result
-          (λ ended. subst (λ (t : List ℕ). IsTrue (is_line_start t)) (sym (ended ∙ printed)) (c.printed_line.ensures.start old (line steps))) c.end_line.ensures.ok;
+          (λ ended. subst (λ (t : List ℕ). IsTrue (is_line_start t)) (sym (ended ∙ printed))
+          (c.printed_line.ensures.start old (line steps))) c.end_line.ensures.ok;
       text = on_ok_weaker c.end_line.result (λ ended. ended ∙ printed) c.end_line.ensures.ok;
     }

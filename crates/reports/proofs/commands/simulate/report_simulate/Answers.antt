@@ -19,7 +19,8 @@ returns-in_err-ordered-clause-told g c =
     let after = g.F.Files.faults_of c.judge_ordered.new.files in
     passed c.from_residual.result _ _ e c.from_residual.ensures.1
     (stop_of_all told input source s before after e
-    (stop_before told before after (input_files input ++ source_file source ∷ []) (priority_files (priority_file input) s.priority) e c.in_err-ordered.ensures.judged))
+    (stop_before told before after (input_files input ++ source_file source ∷ [])
+    (priority_files (priority_file input) s.priority) e c.in_err-ordered.ensures.judged))
 
 pub returns-in_err-priority-clause-told : goal.returns-in_err-priority-clause-told
 returns-in_err-priority-clause-told g c =
@@ -37,10 +38,13 @@ returns-in_err-priority-clause-told g c =
     passed c.from_residual-in_err-priority.result _ _ e c.from_residual-in_err-priority.ensures.1
     (stop_of_all told input source s before after e
     (stop_after told now c.in_ok-ordered.ensures.same before then after c.in_ok-ordered.ensures.later
-    (input_files input ++ source_file source ∷ []) (λ texts are. (c.in_ok-ordered.ensures.judged texts are).accepted) more (few_priority (priority_file input) s.priority)
+    (input_files input ++ source_file source ∷ []) (λ texts are. (c.in_ok-ordered.ensures.judged texts are).accepted) more
+    (few_priority (priority_file input) s.priority)
     (IsRefusedRanking (length (system_of ordered.problem).tasks))
-    (λ one two answer are are_more refused. ranking_refused told input source s ordered s.priority one two answer (c.in_ok-ordered.ensures.judged one are) are_more refused) e
-    (subst (λ (n : ℕ). IsStop now then after more (IsRefusedRanking n) e) c.task_count-count.ensures (c.in_err-priority.ensures.judged (priority_file input)))))
+    (λ one two answer are are_more refused.
+    ranking_refused told input source s ordered s.priority one two answer (c.in_ok-ordered.ensures.judged one are) are_more refused) e
+    (subst (λ (n : ℕ). IsStop now then after more (IsRefusedRanking n) e) c.task_count-count.ensures
+    (c.in_err-priority.ensures.judged (priority_file input)))))
 
 pub returns-clause-told : goal.returns-clause-told
 returns-clause-told g c =

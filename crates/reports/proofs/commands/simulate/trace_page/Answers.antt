@@ -17,7 +17,8 @@ returns c =
     ap (λ (text : List ℕ). record { status = status.Done; text = text })
     (trace-lines c.printed_lines.ensures.more makespan (count_line (codes "used") trace.used) (count_line (codes "booked") trace.booked)
     (count_line (codes "events") (length events)) (codes "end" ∷ []) (map event_line events)
-    c.print_count.new.report c.print_count-2.new.report c.print_count-3.new.report c.print_count-4.new.report c.print_events.new.report c.print_end.new.report
+    c.print_count.new.report c.print_count-2.new.report c.print_count-3.new.report
+    c.print_count-4.new.report c.print_events.new.report c.print_end.new.report
     (c.in_ok-print_count.ensures.text ∙ ap (λ (text : List ℕ). text ++ line_text makespan) c.new-report.ensures)
     c.in_ok-print_count-2.ensures.text c.in_ok-print_count-3.ensures.text
     (c.in_ok-print_count-4.ensures.text ∙ ap count (c.len.ensures ∙ long))

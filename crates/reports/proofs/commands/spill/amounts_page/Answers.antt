@@ -16,6 +16,8 @@ returns c =
     (page-lines c.printed_lines.ensures.more volume (items amounts) (codes "end" ∷ []) (lines amounts)
     c.print_count.new.report c.print_count-2.new.report c.print_amounts.new.report c.print_end.new.report
     (c.in_ok-print_count.ensures.text ∙ ap (λ (text : List ℕ). text ++ line_text volume) c.new-report.ensures)
-    (c.in_ok-print_count-2.ensures.text ∙ counted ∙ ap (λ (given : List ℕ). c.print_count.new.report ++ line_text (items given)) c.deref.ensures.value)
-    (c.in_ok-print_amounts.ensures.text ∙ ap (λ (given : List ℕ). c.print_count-2.new.report ++ text_of_lines (lines given)) c.deref-2.ensures.value)
+    (c.in_ok-print_count-2.ensures.text ∙ counted
+    ∙ ap (λ (given : List ℕ). c.print_count.new.report ++ line_text (items given)) c.deref.ensures.value)
+    (c.in_ok-print_amounts.ensures.text
+    ∙ ap (λ (given : List ℕ). c.print_count-2.new.report ++ text_of_lines (lines given)) c.deref-2.ensures.value)
     c.in_ok-print_end.ensures)

@@ -24,7 +24,8 @@ returns-in_err-plan-clause-judged g c =
     let refuses = λ (text : List ℕ). IsRefusedFile (codes "plan") plan_word (RefusesPlan text) text in
     passed c.from_residual.result _ _ e c.from_residual.ensures.1
     (stop_before told before after (file ∷ []) (priority_files plan_priority_file given) e
-    (alone_stop told before after file refuses (IsFirstRefusal (file ∷ []) []) (λ text answer refused. inl refused) e c.in_err-plan.ensures.judged))
+    (alone_stop told before after file refuses (IsFirstRefusal (file ∷ []) [])
+    (λ text answer refused. inl refused) e c.in_err-plan.ensures.judged))
 
 pub returns-in_err-judge_priority-clause-judged : goal.returns-in_err-judge_priority-clause-judged
 returns-in_err-judge_priority-clause-judged g c =
@@ -40,7 +41,8 @@ returns-in_err-judge_priority-clause-judged g c =
     let plan = c.in_ok-plan.plan in
     let is_plan = c.in_ok-plan.ensures.judged in
     passed c.from_residual-in_err-judge_priority.result _ _ e c.from_residual-in_err-judge_priority.ensures.1
-    (stop_after told now c.in_ok-plan.ensures.same before then after c.in_ok-plan.ensures.later (plan_at name ∷ []) (plan_accepted told name plan is_plan)
+    (stop_after told now c.in_ok-plan.ensures.same before
+    then after c.in_ok-plan.ensures.later (plan_at name ∷ []) (plan_accepted told name plan is_plan)
     more (few_priority plan_priority_file given) (IsRefusedRanking (length plan.order))
     (λ one two answer are are_more refused. plan_ranks_refused told name plan is_plan given one two answer are are_more refused) e
     (subst (λ (order : List ℕ). IsStop now then after more (IsRefusedRanking (length order)) e) c.order.ensures.value
@@ -51,7 +53,8 @@ with_priority-requires g c =
     let plan = c.in_ok-plan.plan in
     ranked (length plan.order) c.in-Given.numbers.items
     (subst (IsRanking (length plan.order)) c.in-Given.is
-    (subst (λ (order : List ℕ). IsRanking (length order) c.in_ok-judge_priority.field-0) c.order.ensures.value c.in_ok-judge_priority.ensures.each))
+    (subst (λ (order : List ℕ). IsRanking (length order) c.in_ok-judge_priority.field-0)
+    c.order.ensures.value c.in_ok-judge_priority.ensures.each))
 
 pub returns-in-Own-clause-judged : goal.returns-in-Own-clause-judged
 returns-in-Own-clause-judged g c =
@@ -77,4 +80,5 @@ returns-in-Given-clause-judged g c =
     (upgraded_plan told name plan c.in_ok-plan.ensures.judged given (Given c.in-Given.numbers)
     (λ ts told_more. subst (IsPriorityOf given (length plan.order) ts) c.in-Given.is
     (subst (λ (order : List ℕ). IsPriorityOf given (length order) ts c.in_ok-judge_priority.field-0) c.order.ensures.value
-    (c.in_ok-judge_priority.ensures.judged plan_priority_file ts (told_same told now c.in_ok-plan.ensures.same more ts told_more)))) texts are)
+    (c.in_ok-judge_priority.ensures.judged plan_priority_file ts (told_same told now c.in_ok-plan.ensures.same more ts told_more))))
+    texts are)

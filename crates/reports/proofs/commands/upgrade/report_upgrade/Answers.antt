@@ -24,10 +24,12 @@ returns-in_err-tree-in-Tree-clause-told g c =
     let e = c.in_err-tree-in-Tree.field-0.0 in
     let file : NamedFile = record { role = tree_file; name = c.in-Tree.name.now } in
     let refuses = λ (text : List ℕ). IsRefusedFile (codes "tree") tree_word (RefusesTree text) text in
-    subst (λ (u : Upgrade). AreJudged told before after (upgrade_files (upgrade_view u)) (λ texts page. IsReport (upgrade (upgrade_view u)) texts (answer_of page))
+    subst (λ (u : Upgrade). AreJudged told before after (upgrade_files (upgrade_view u))
+    (λ texts page. IsReport (upgrade (upgrade_view u)) texts (answer_of page))
     (IsFirstRefusal (upgrade_files (upgrade_view u)) []) c.from_residual.result) (sym c.in-Tree.is)
     (passed c.from_residual.result _ _ e c.from_residual.ensures.1
-    (alone_stop told before after file refuses (IsFirstRefusal (file ∷ []) []) (λ text answer refused. inl refused) e c.in_err-tree-in-Tree.ensures.judged))
+    (alone_stop told before after file refuses (IsFirstRefusal (file ∷ []) [])
+    (λ text answer refused. inl refused) e c.in_err-tree-in-Tree.ensures.judged))
 
 pub returns-in_err-terms-in-Workflow-clause-told : goal.returns-in_err-terms-in-Workflow-clause-told
 returns-in_err-terms-in-Workflow-clause-told g c =
@@ -37,10 +39,12 @@ returns-in_err-terms-in-Workflow-clause-told g c =
     let e = c.in_err-terms-in-Workflow.field-0.0 in
     let file : NamedFile = record { role = workflow_file; name = c.in-Workflow.name.now } in
     let refuses = λ (text : List ℕ). IsRefusedFile (codes "workflow") workflow_word (RefusesWorkflow text) text in
-    subst (λ (u : Upgrade). AreJudged told before after (upgrade_files (upgrade_view u)) (λ texts page. IsReport (upgrade (upgrade_view u)) texts (answer_of page))
+    subst (λ (u : Upgrade). AreJudged told before after (upgrade_files (upgrade_view u))
+    (λ texts page. IsReport (upgrade (upgrade_view u)) texts (answer_of page))
     (IsFirstRefusal (upgrade_files (upgrade_view u)) []) c.from_residual-in_err-terms-in-Workflow.result) (sym c.in-Workflow.is)
     (passed c.from_residual-in_err-terms-in-Workflow.result _ _ e c.from_residual-in_err-terms-in-Workflow.ensures.1
-    (alone_stop told before after file refuses (IsFirstRefusal (file ∷ []) []) (λ text answer refused. inl refused) e c.in_err-terms-in-Workflow.ensures.judged))
+    (alone_stop told before after file refuses (IsFirstRefusal (file ∷ []) [])
+    (λ text answer refused. inl refused) e c.in_err-terms-in-Workflow.ensures.judged))
 
 pub returns-in_ok-tree_2_page-in-Tree-clause-told : goal.returns-in_ok-tree_2_page-in-Tree-clause-told
 returns-in_ok-tree_2_page-in-Tree-clause-told g c =
@@ -48,10 +52,12 @@ returns-in_ok-tree_2_page-in-Tree-clause-told g c =
     let file : NamedFile = record { role = tree_file; name = c.in-Tree.name.now } in
     let tree = c.in_ok-tree-in-Tree.tree in
     let answer = answer_of c.in_ok-tree_2_page-in-Tree.field-0 in
-    subst (λ (u : Upgrade). (texts : List (List ℕ)) → AreTold told (upgrade_files (upgrade_view u)) texts → IsUpgradeOf (upgrade_view u) texts answer)
+    subst (λ (u : Upgrade). (texts : List (List ℕ))
+    → AreTold told (upgrade_files (upgrade_view u)) texts → IsUpgradeOf (upgrade_view u) texts answer)
     (sym c.in-Tree.is)
     (alone_told told file (λ texts. IsUpgradeOf (tree_upgrade c.in-Tree.name.now) texts answer)
-    (λ text is. (tree_value tree, (text, tree, refl, c.in_ok-tree-in-Tree.ensures.judged text is, refl), c.in_ok-tree_2_page-in-Tree.ensures)))
+    (λ text is.
+    (tree_value tree, (text, tree, refl, c.in_ok-tree-in-Tree.ensures.judged text is, refl), c.in_ok-tree_2_page-in-Tree.ensures)))
 
 pub returns-in_ok-workflow_2_page-in-Workflow-clause-told : goal.returns-in_ok-workflow_2_page-in-Workflow-clause-told
 returns-in_ok-workflow_2_page-in-Workflow-clause-told g c =
@@ -59,16 +65,22 @@ returns-in_ok-workflow_2_page-in-Workflow-clause-told g c =
     let file : NamedFile = record { role = workflow_file; name = c.in-Workflow.name.now } in
     let terms = c.in_ok-terms-in-Workflow.terms in
     let answer = answer_of c.in_ok-workflow_2_page-in-Workflow.field-0 in
-    subst (λ (u : Upgrade). (texts : List (List ℕ)) → AreTold told (upgrade_files (upgrade_view u)) texts → IsUpgradeOf (upgrade_view u) texts answer)
+    subst (λ (u : Upgrade). (texts : List (List ℕ))
+    → AreTold told (upgrade_files (upgrade_view u)) texts → IsUpgradeOf (upgrade_view u) texts answer)
     (sym c.in-Workflow.is)
     (alone_told told file (λ texts. IsUpgradeOf (workflow_upgrade c.in-Workflow.name.now) texts answer)
-    (λ text is. (workflow_value terms, (text, terms, refl, c.in_ok-terms-in-Workflow.ensures.judged text is, refl), c.in_ok-workflow_2_page-in-Workflow.ensures)))
+    (λ text is. (
+      workflow_value terms,
+      (text, terms, refl, c.in_ok-terms-in-Workflow.ensures.judged text is, refl),
+      c.in_ok-workflow_2_page-in-Workflow.ensures,
+    )))
 
 pub returns-in_ok-plan_2_page-in-Plan-clause-told : goal.returns-in_ok-plan_2_page-in-Plan-clause-told
 returns-in_ok-plan_2_page-in-Plan-clause-told g c =
     let told = g.F.Files.bytes_of c.args.files.now in
     let plan = c.in_ok-plan-in-Plan.plan in
     let answer = answer_of c.in_ok-plan_2_page-in-Plan.field-0 in
-    subst (λ (u : Upgrade). (texts : List (List ℕ)) → AreTold told (upgrade_files (upgrade_view u)) texts → IsUpgradeOf (upgrade_view u) texts answer)
+    subst (λ (u : Upgrade). (texts : List (List ℕ))
+    → AreTold told (upgrade_files (upgrade_view u)) texts → IsUpgradeOf (upgrade_view u) texts answer)
     (sym c.in-Plan.is)
     (λ texts are. (plan_value plan, c.in_ok-plan-in-Plan.ensures.judged texts are, c.in_ok-plan_2_page-in-Plan.ensures))

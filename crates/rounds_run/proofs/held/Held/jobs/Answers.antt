@@ -73,7 +73,8 @@ loop-place-preserved c =
             let own : IsSuper f.supers node = subst (λ z. IsSuper z node) (sym supers) super in
             let at = ap (λ (z : List Job). get_or z place d) c.in_ok-push.ensures.items
             ∙ get_or_push c.loop-place.jobs.items _ d place c.loop-place.invariant.count in
-            subst (IsJobOf f node) (sym at) (job_is f factor (laws_of before f factor) (λ j. c.parent_is_first.ensures.parent f.joined f.order j)
+            subst (IsJobOf f node) (sym at)
+            (job_is f factor (laws_of before f factor) (λ j. c.parent_is_first.ensures.parent f.joined f.order j)
             (or_in ran (take place round)) ran old node _ (c.loop-place.invariant.held f ran supers is) own
             (not_taken f.supers ran round place due c.loop-place-test.true there)
             (λ t child up. due.children node t there child up)

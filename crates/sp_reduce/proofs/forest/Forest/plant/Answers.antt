@@ -17,8 +17,10 @@ returns-in_ok-push-in-None-clause-carried c = λ graph rest links p q h.
     let here : IsCarried graph rest c.push.new.self.items (links ++ link p q ∷ []) c.push-in-None.new.self.items =
     subst (λ (ns : List ℕ). IsCarried graph rest c.push.new.self.items (links ++ link p q ∷ []) ns)
     (sym (c.in_ok-push-in-None.ensures.items ∙ ap (λ (n : ℕ). nodes ++ n ∷ []) len))
-    (subst (λ (xs : List Piece). IsCarried graph rest xs (links ++ link p q ∷ []) (nodes ++ length ps ∷ [])) (sym c.in_ok-push.ensures.items) done) in
-    subst (λ (o : Option ℕ). MatchOption o (IsCarried graph rest c.push.new.self.items (links ++ link p q ∷ []) c.push-in-None.new.self.items)
+    (subst (λ (xs : List Piece). IsCarried graph rest xs (links ++ link p q ∷ []) (nodes ++ length ps ∷ []))
+    (sym c.in_ok-push.ensures.items) done) in
+    subst (λ (o : Option ℕ).
+    MatchOption o (IsCarried graph rest c.push.new.self.items (links ++ link p q ∷ []) c.push-in-None.new.self.items)
     (λ k. IsLink links k p q → IsCarried graph rest c.push.new.self.items links c.push-in-None.new.self.items)) (sym c.in-None.is) here
 
 pub returns-in_ok-push-in-Some-clause-carried : goal.returns-in_ok-push-in-Some-clause-carried
@@ -28,7 +30,11 @@ returns-in_ok-push-in-Some-clause-carried c = λ graph rest links p q h.
     let k = c.in-Some.twin in
     let now = set nodes k (c.len-node.result + 1) in
     let len : c.len-node.result ≡ length ps = omega (arith, c.len-node.ensures, c.args.self.now.pieces.ok) in
-    let first : get_or nodes k 0 ≡ c.index.result.now = sym (get_or_read nodes k c.index.result.now (omega (arith, c.args.self.now.nodes.ok, c.requires.twin k c.in-Some.is)) c.index.ensures 0) in
+    let first : get_or nodes k 0 ≡ c.index.result.now = sym (get_or_read nodes k c.index.result.now (omega (
+      arith,
+      c.args.self.now.nodes.ok,
+      c.requires.twin k c.in-Some.is,
+    )) c.index.ensures 0) in
     let items : c.push-in-Some.new.self.items ≡ (ps ++ Hold c.args.size ∷ []) ++ Both (get_or nodes k 0) (length ps) ∷ [] =
     c.in_ok-push-in-Some.ensures.items ∙ (λ z. c.in_ok-push.ensures.items z ++ Both (sym first z) (len z) ∷ []) in
     let here : IsLink links k p q → IsCarried graph rest c.push-in-Some.new.self.items links now =

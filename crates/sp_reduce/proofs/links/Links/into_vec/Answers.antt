@@ -9,5 +9,7 @@ returns-clause-irreducible c =
     let f = c.self.inside in
     let h = c.self.invariant in
     let w = h.work in
-    rw (← c.self.view_is) (λ idle. idle-irreducible f.tasks h.rank f.list.items f.ins.items f.outs.items f.in_at.items f.out_at.items (hash.get nat_eq f.by_ends) w
+    rw (← c.self.view_is)
+    (λ idle.
+    idle-irreducible f.tasks h.rank f.list.items f.ins.items f.outs.items f.in_at.items f.out_at.items (hash.get nat_eq f.by_ends) w
     (λ u low high one_in one_out. idle u low high (sym (w.ins_are u high) ∙ one_in) (sym (w.outs_are u high) ∙ one_out)))

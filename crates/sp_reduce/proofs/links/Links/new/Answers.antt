@@ -23,17 +23,21 @@ invariant_of-result c =
     let in_at : c.in_ok-in_at.in_at.items ≡ replicate count 0 = search rules in
     let out_at : c.in_ok-out_at.out_at.items ≡ replicate count 0 = search rules in
     let table : ℕ → Option ℕ = λ q. hash.get nat_eq c.new-2.result q in
-    let lens : (length c.in_ok-ins.ins.items ≡ suc c.args.tasks) × (length c.in_ok-outs.outs.items ≡ suc c.args.tasks) × (length c.in_ok-in_at.in_at.items ≡ suc c.args.tasks) × (length c.in_ok-out_at.out_at.items ≡ suc c.args.tasks) = (
+    let lens : (length c.in_ok-ins.ins.items ≡ suc c.args.tasks) × (length c.in_ok-outs.outs.items ≡ suc c.args.tasks)
+    × (length c.in_ok-in_at.in_at.items ≡ suc c.args.tasks) × (length c.in_ok-out_at.out_at.items ≡ suc c.args.tasks) = (
       omega (arith, ap length ins, length-replicate {A = ℕ} count 0),
       omega (arith, ap length outs, length-replicate {A = ℕ} count 0),
       omega (arith, ap length in_at, length-replicate {A = ℕ} count 0),
       omega (arith, ap length out_at, length-replicate {A = ℕ} count 0),
     ) in
-    let start = work-start c.args.tasks (λ v. v) c.in_ok-ins.ins.items c.in_ok-outs.outs.items c.in_ok-in_at.in_at.items c.in_ok-out_at.out_at.items table lens
+    let start = work-start c.args.tasks
+    (λ v. v) c.in_ok-ins.ins.items c.in_ok-outs.outs.items c.in_ok-in_at.in_at.items c.in_ok-out_at.out_at.items table lens
     (λ v. (zeros c.in_ok-ins.ins.items count ins v, zeros c.in_ok-outs.outs.items count outs v)) in
     record {
       few_tasks = c.requires;
       few_links = omega (arith, ap length c.new.ensures.items);
       rank = λ v. v;
-      work = subst (λ (ls : List Link). IsWork c.args.tasks (λ v. v) ls c.in_ok-ins.ins.items c.in_ok-outs.outs.items c.in_ok-in_at.in_at.items c.in_ok-out_at.out_at.items table) (sym c.new.ensures.items) start;
+      work = subst (λ (ls : List Link). IsWork c.args.tasks
+          (λ v. v) ls c.in_ok-ins.ins.items c.in_ok-outs.outs.items c.in_ok-in_at.in_at.items c.in_ok-out_at.out_at.items table)
+          (sym c.new.ensures.items) start;
     }

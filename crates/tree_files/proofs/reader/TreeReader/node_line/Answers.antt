@@ -8,4 +8,6 @@ pub returns-in_err-node : goal.returns-in_err-node
 returns-in_err-node c =
     let p = err_from_is_err_and c.from_residual.result c.from_residual.ensures.1 in
     let r = row c.args.line.number c.args.line.text.now in
-    rw (← c.self.view_is, p.1, p.2) (Fails-tested (node_tests c.self.inside.version c.self.inside.count c.self.inside.total r) (node_of c.self.inside.version r) _ c.in_err-node.field-0.0 c.in_err-node.ensures.judged)
+    rw (← c.self.view_is, p.1, p.2)
+    (Fails-tested (node_tests c.self.inside.version c.self.inside.count c.self.inside.total r)
+    (node_of c.self.inside.version r) _ c.in_err-node.field-0.0 c.in_err-node.ensures.judged)

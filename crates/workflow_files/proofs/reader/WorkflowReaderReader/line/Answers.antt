@@ -10,5 +10,6 @@ pub returns : goal.returns
 returns c before taken passed =
     let s = c.args.self.now in
     let r = row c.args.line.number c.args.line.text.now in
-    Steps-judge (workflow_format.line_tests before r) (λ next. took next (before ++ r ∷ []) × (workflow_format ≡ workflow_format)) (workflow_step s r) _ _
+    Steps-judge (workflow_format.line_tests before r)
+    (λ next. took next (before ++ r ∷ []) × (workflow_format ≡ workflow_format)) (workflow_step s r) _ _
     (step_follows s before r taken passed) c.take_line.ensures
