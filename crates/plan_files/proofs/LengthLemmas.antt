@@ -1,18 +1,14 @@
 -- A printed plan is never too long for a reader of files: bounds on the bytes of each line, of each section, and of all lines.
-use Rattle.std.proofs.Common.{◌≡◌, ℕ, ◌+◌, ◌*◌, ◌≤◌, inl, inr, List, [], ◌∷◌, ◌++◌, length, map, refl, ap, subst, ◌∙◌, arith, ℤ, pos, negsuc, unsigned_abs, length-append}
+use Rattle.std.proofs.Common.{◌≡◌, ℕ, ◌≤◌, inl, inr, List, [], ◌∷◌, ◌++◌, length, map, refl, ap, arith, ℤ, pos, negsuc, unsigned_abs}
 use Rattle.std.specs.Fmt.{decimal, signed_decimal}
 use Rattle.std.specs.Prelude.{codes}
-use Rattle.std.specs.List.{All, join_with_byte}
+use Rattle.std.specs.List.{All}
 use Rattle.std.proofs.lemmas.Fmt.{length-decimal-le, length_signed_le}
-use Rattle.std.proofs.lemmas.Grind.{flat_map-append}
-use Rattle.std.proofs.lemmas.List.{length-map}
-use Rattle.std.proofs.lemmas.List.Concat.{length-flat_map}
-use Rattle.std.proofs.lemmas.List.Elements.{All-nil, All-map, All-same, All-weaker}
-use Rattle.std.proofs.lemmas.List.Sums.{sum_by-le}
+use Rattle.std.proofs.lemmas.List.Elements.{All-nil, All-same, All-weaker}
 use Rattle.limits.specs.Limits.{most_bytes, most_tasks, most_positions, most_total}
 use Rattle.file_frame.specs.declared.version.Version.{Version}
 use Rattle.file_frame.specs.declared.version.Version.TheVariants.{One, Two}
-use Rattle.mp_text.specs.Report.{line_text, text_of_lines}
+use Rattle.mp_text.specs.Report.{text_of_lines}
 use Rattle.permutations.specs.Perm.{IsVertex}
 use Rattle.plans.specs.Plan.{PlanValue, most_number, IsPlan, IsClaimWithin, IsPriority}
 use Rattle.plan_files.specs.Printed.{task_line, claim_line, dir_word, task_lines, claim_lines, priority_lines, last_lines, plan_text_in}

@@ -1,5 +1,5 @@
 -- A printed plan is read as it was.
-use Rattle.std.proofs.Common.{◌≡◌, ℕ, ◌+◌, ◌^◌, ◌<◌, ◌≤◌, inl, inr, true, false, not, cond, ◌||◌, eqb, ltb, List, [], ◌∷◌, ◌++◌, length, map, refl, sym, ap, subst, ◌∙◌, arith, ℤ, unsigned_abs, Some, None, append_assoc, append-nil, length-append}
+use Rattle.std.proofs.Common.{◌≡◌, ℕ, ◌+◌, ◌≤◌, inl, inr, true, false, cond, ◌||◌, eqb, ltb, List, [], ◌∷◌, ◌++◌, length, map, refl, sym, ap, subst, ◌∙◌, arith, ℤ, unsigned_abs, Some, None, append_assoc, append-nil, length-append}
 use Rattle.std.specs.Bool.{IsTrue}
 use Rattle.std.specs.Fmt.{decimal, signed_decimal}
 use Rattle.std.specs.Prelude.{FitsSigned, codes}
@@ -11,15 +11,14 @@ use Rattle.std.proofs.lemmas.List.Elements.{All-head, All-tail}
 use Rattle.std.proofs.lemmas.List.Folds.{list_all-append}
 use Rattle.std.proofs.lemmas.List.Sums.{sum_by-append}
 use Rattle.limits.specs.Limits.{most_tasks, most_positions, most_total}
-use Rattle.mp_text.specs.declared.layout.Layout.{Layout}
 use Rattle.mp_text.specs.declared.layout.Layout.TheVariants.{Commented}
 use Rattle.file_frame.specs.declared.version.Version.{Version}
 use Rattle.file_frame.specs.declared.version.Version.TheVariants.{One, Two}
-use Rattle.mp_text.specs.Text.{Row, says_nothing, number_of, signed_of}
+use Rattle.mp_text.specs.Text.{Row, number_of, signed_of}
 use Rattle.file_frame.specs.Words.{after_word, version_of}
 use Rattle.mp_text.specs.Ahead.{rows_of_bytes, past_of_bytes}
 use Rattle.mp_text.specs.Grammar.{first_failure, ArePassed}
-use Rattle.mp_text.specs.Report.{is_counted, numbered_from, text_of_lines, is_token}
+use Rattle.mp_text.specs.Report.{is_counted, numbered_from, is_token}
 use Rattle.permutations.specs.Perm.{IsVertex, times}
 use Rattle.permutations.proofs.PlaceLemmas.{times-here}
 use Rattle.plans.specs.Plan.{PlanValue, most_number, IsPlan, IsClaimWithin, RiseFrom, IsPriority}

@@ -2,20 +2,16 @@
 -- project's own format.
 use Rattle.std.specs.Prelude.{◌≡◌, ◌==◌, ℕ, ◌-◌, Bool, true, false, ◌&&◌, ◌||◌, nat_lt, nat_le, is_some, unwrap_or, ℤ, pos, unsigned_abs}
 use Rattle.std.specs.Prelude.{Option, Some, None, List, [], ◌∷◌, ◌++◌, length, map, take, drop, codes, if◌then◌else◌, slice_index_or}
-use Rattle.std.specs.Option.{option_and_then}
 use Rattle.std.specs.Str.{bytes_eq}
-use Rattle.std.specs.Cmp.Lexicographic.{pointwise}
 use Rattle.limits.specs.Limits.{most_tasks, most_positions, most_total}
 use Rattle.limits.specs.declared.name.LimitName.TheVariants as limits
 use Rattle.mp_text.specs.declared.layout.Layout.TheVariants.{Commented}
 use Rattle.mp_text.specs.declared.refusals.Refusal.{Refusal}
-use Rattle.mp_text.specs.declared.refusals.Refusal.TheVariants as refusals
 use Rattle.file_frame.specs.declared.version.Version.{Version}
 use Rattle.file_frame.specs.declared.version.Version.TheVariants.{One, Two}
 use Rattle.mp_text.specs.Text.{Row, number_of, signed_of}
-use Rattle.file_frame.specs.Words.{after_word, version_of}
 use Rattle.mp_text.specs.Ahead.{rows_of_bytes, past_of_bytes}
-use Rattle.mp_text.specs.Grammar.{Test, test, Format, IsWellFormed, Refuses, fault, fault_at, token_at}
+use Rattle.mp_text.specs.Grammar.{Test, test, Format, IsWellFormed, Refuses, fault, token_at}
 use Rattle.mp_text.specs.Reading.{IsRefusal}
 use Rattle.permutations.specs.Perm.{times}
 use Rattle.plans.specs.Plan.{PlanValue, most_number}

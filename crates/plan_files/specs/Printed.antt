@@ -3,7 +3,6 @@ use Rattle.std.specs.Prelude.{ℕ, List, [], ◌∷◌, ◌++◌, length, map, c
 use Rattle.std.specs.Fmt.{decimal, signed_decimal}
 use Rattle.file_frame.specs.declared.version.Version.{Version}
 use Rattle.file_frame.specs.declared.version.Version.TheVariants.{One, Two}
-use Rattle.file_frame.specs.Words.{version_word}
 use Rattle.mp_text.specs.Report.{text_of_lines}
 use Rattle.plans.specs.Plan.{PlanValue}
 use Rattle.plans.specs.declared.claim.Claim.{Claim}
