@@ -1,5 +1,6 @@
 -- What well-formed lines of a plan file say of what they state.
-use Rattle.std.proofs.Common.{◌≡◌, ℕ, ◌<◌, ◌≤◌, ◌⊎◌, inl, inr, Bool, true, false, cond, ◌&&◌, eqb, leb, ltb, List, [], ◌∷◌, ◌++◌, length, refl, sym, ap, subst, ◌∙◌, arith, unsigned_abs, is_some, None, append_assoc, append-nil}
+use Rattle.std.proofs.Common.{◌≡◌, ℕ, ◌<◌, ◌≤◌, ◌⊎◌, inl, inr, Bool, true, false, cond, ◌&&◌, eqb, leb, ltb, List, [], ◌∷◌, ◌++◌}
+use Rattle.std.proofs.Common.{length, refl, sym, ap, subst, ◌∙◌, arith, unsigned_abs, is_some, None, append_assoc, append-nil}
 use Rattle.std.specs.Prelude.{codes}
 use Rattle.std.specs.List.{All}
 use Rattle.std.proofs.lemmas.List.{length_push}
@@ -15,7 +16,9 @@ use Rattle.mp_text.specs.Ahead.{rows_of_bytes}
 use Rattle.mp_text.specs.Grammar.{test, first_failure, ArePassed, token_at}
 use Rattle.permutations.specs.Perm.{IsPart, IsPerm, IsVertex, times}
 use Rattle.plans.specs.Plan.{PlanValue, most_number, IsPlan, IsClaimWithin, RiseFrom, IsPriority}
-use Rattle.plan_files.specs.PlanFile.{Stated, stated, plan_format, staged_tests, is_ended, is_number_up_to, is_bound, bound_of, value_of, task_on, claim_on, last_position, claim_tests, order_tests, peak_tests, priority_tests, priority_section_tests, tests_after_order, ReadsPlan}
+use Rattle.plan_files.specs.PlanFile.{Stated, stated, plan_format, staged_tests, is_ended, is_number_up_to, is_bound, bound_of}
+use Rattle.plan_files.specs.PlanFile.{value_of, task_on, claim_on, last_position, claim_tests, order_tests, peak_tests}
+use Rattle.plan_files.specs.PlanFile.{priority_tests, priority_section_tests, tests_after_order, ReadsPlan}
 use Rattle.plan_files.specs.Reader.{staged_next, with_task, with_rank, with_claim, peak_next, ranks_next, after_order_next}
 use Rattle.plan_files.proofs.ReaderLaws.{stated_push}
 use Rattle.plans.specs.declared.claim.Claim.{Claim}
@@ -33,7 +36,8 @@ up_to : (most : ℕ) (token : List ℕ) → is_number_up_to most token ≡ true 
 up_to most token e = leb-true _ _ (and_parts _ _ e).1
 
 -- of three tests that hold, the second and the third
-hold : {K : Type 0} (a b c : Bool) (r s t : Refusal K) → first_failure (test a r ∷ test b s ∷ test c t ∷ []) ≡ None → (b ≡ true) × (c ≡ true)
+hold : {K : Type 0} (a b c : Bool) (r s t : Refusal K)
+    → first_failure (test a r ∷ test b s ∷ test c t ∷ []) ≡ None → (b ≡ true) × (c ≡ true)
 hold a b c r s t none =
     let two = passes _ _ _ (passes _ _ _ none).1 in
     (two.0, (passes _ _ _ two.1).0)
@@ -41,20 +45,29 @@ hold a b c r s t none =
 order-test : (row : Row) → first_failure (order_tests row) ≡ None → task_on row ≤ most_number
 order-test row passed = up_to most_number (token_at 0 row) (passes _ _ _ (passes _ _ _ passed).1).0
 
-priority-test : (tasks : ℕ) (before : List ℕ) (row : Row) → first_failure (priority_tests tasks before row) ≡ None → IsVertex tasks (task_on row) × (times before (task_on row) ≡ 0)
+priority-test : (tasks : ℕ) (before : List ℕ) (row : Row) → first_failure (priority_tests tasks before row) ≡ None
+    → IsVertex tasks (task_on row) × (times before (task_on row) ≡ 0)
 priority-test tasks before row passed =
     let v = task_on row in
     let all = and_parts (leb 1 v && leb v tasks) (eqb (times before v) 0) (hold _ _ _ _ _ _ passed).1 in
     let task = and_parts (leb 1 v) (leb v tasks) all.0 in
     ((leb-true 1 v task.0, leb-true v tasks task.1), eqb-true (times before v) 0 all.1)
 
-claim-test : (before : List Claim) (row : Row) → first_failure (claim_tests before row) ≡ None → IsClaimWithin (claim_on row) × (last_position before < (claim_on row).position)
+claim-test : (before : List Claim) (row : Row) → first_failure (claim_tests before row) ≡ None
+    → IsClaimWithin (claim_on row) × (last_position before < (claim_on row).position)
 claim-test before row passed =
     let both = hold _ _ _ _ _ _ passed in
-    let all = and_parts (is_number_up_to most_number (token_at 0 row) && is_bound (token_at 2 row)) (is_number_up_to most_total (token_at 3 row)) both.0 in
+    let all = and_parts (is_number_up_to most_number (token_at 0 row) && is_bound (token_at 2 row))
+    (is_number_up_to most_total (token_at 3 row)) both.0 in
     let first = and_parts (is_number_up_to most_number (token_at 0 row)) (is_bound (token_at 2 row)) all.0 in
-    let bound = and_parts (is_some (signed_of (token_at 2 row))) (leb (unsigned_abs (bound_of (token_at 2 row))) most_total) first.1 in
-    (record { position = up_to most_number (token_at 0 row) first.0; bound = leb-true _ _ bound.1; rest = up_to most_total (token_at 3 row) all.1 }, ltb-true _ _ both.1)
+    let bound = and_parts (is_some (signed_of (token_at 2 row))) (leb (unsigned_abs (bound_of (token_at 2 row))) most_total) first.1 in (
+      record {
+        position = up_to most_number (token_at 0 row) first.0;
+        bound = leb-true _ _ bound.1;
+        rest = up_to most_total (token_at 3 row) all.1;
+      },
+      ltb-true _ _ both.1,
+    )
 
 -- ---- positions that rise
 
@@ -99,26 +112,36 @@ At stages.Ended s = IsPriority (length s.order) s.priority
 abbrev Holds : Stated → Type 0
 Holds s = IsSoFar s.order s.peak s.claims × At s.stage s
 
-peak-passed : (s : Stated) (row : Row) → IsSoFar s.order s.peak s.claims → IsPriority (length s.order) s.priority → first_failure (peak_tests row) ≡ None → Holds (peak_next s row)
-peak-passed s row so ranked passed = (record { tasks = so.tasks; peak_fits = leb-true _ _ (hold _ _ _ _ _ _ passed).1; claims_fit = so.claims_fit }, ranked)
+peak-passed : (s : Stated) (row : Row) → IsSoFar s.order s.peak s.claims
+    → IsPriority (length s.order) s.priority → first_failure (peak_tests row) ≡ None → Holds (peak_next s row)
+peak-passed s row so ranked passed =
+    (record { tasks = so.tasks; peak_fits = leb-true _ _ (hold _ _ _ _ _ _ passed).1; claims_fit = so.claims_fit }, ranked)
 
-ranks-passed : (s : Stated) (row : Row) → IsSoFar s.order s.peak s.claims → length s.order ≡ s.count → first_failure (priority_section_tests s.count row) ≡ None → Holds (ranks_next s row)
+ranks-passed : (s : Stated) (row : Row) → IsSoFar s.order s.peak s.claims → length s.order ≡ s.count
+    → first_failure (priority_section_tests s.count row) ≡ None → Holds (ranks_next s row)
 ranks-passed s row so full passed =
-    let count : (stated_on (codes "priority") row ≡ 0) ⊎ (stated_on (codes "priority") row ≡ s.count) = elim (or_cases _ _ (hold _ _ _ _ _ _ passed).1) [ inl e ↦ inl (eqb-true _ _ e) | inr e ↦ inr (eqb-true _ _ e) ] in
+    let count : (stated_on (codes "priority") row ≡ 0) ⊎ (stated_on (codes "priority") row ≡ s.count) =
+    elim (or_cases _ _ (hold _ _ _ _ _ _ passed).1) [ inl e ↦ inl (eqb-true _ _ e) | inr e ↦ inr (eqb-true _ _ e) ] in
     (so, record { tasks = sym full; count = count; within = omega arith; part = part-none s.count })
 
-after_order-passed : (v : Version) (s : Stated) (row : Row) → IsSoFar s.order s.peak s.claims → length s.order ≡ s.count → s.priority ≡ [] → first_failure (tests_after_order v s row) ≡ None → Holds (after_order_next v s row)
+after_order-passed : (v : Version) (s : Stated) (row : Row) → IsSoFar s.order s.peak s.claims → length s.order ≡ s.count
+    → s.priority ≡ [] → first_failure (tests_after_order v s row) ≡ None → Holds (after_order_next v s row)
 after_order-passed One s row so full fresh passed = peak-passed s row so (inl fresh) passed
 after_order-passed Two s row so full fresh passed = ranks-passed s row so full passed
 
-order-passed : (s : Stated) (row : Row) → s.stage ≡ stages.Order → IsSoFar s.order s.peak s.claims → At stages.Order s → first_failure (staged_tests stages.Order s row) ≡ None → Holds (staged_next stages.Order s row)
+order-passed : (s : Stated) (row : Row) → s.stage ≡ stages.Order → IsSoFar s.order s.peak s.claims
+    → At stages.Order s → first_failure (staged_tests stages.Order s row) ≡ None → Holds (staged_next stages.Order s row)
 order-passed s row stage so at = go (ltb (length s.order) s.count) refl where
-  go : (b : Bool) → ltb (length s.order) s.count ≡ b → first_failure (cond b (order_tests row) (tests_after_order s.version s row)) ≡ None → Holds (cond b (with_task s row) (after_order_next s.version s row))
+  go : (b : Bool) → ltb (length s.order) s.count ≡ b → first_failure (cond b (order_tests row) (tests_after_order s.version s row)) ≡ None
+      → Holds (cond b (with_task s row) (after_order_next s.version s row))
   go true e passed =
       let lt = ltb-true _ _ e in
       let few = at.0 in (
         record {
-          tasks = (omega (arith, length_push s.order (task_on row)), All-push (λ (v : ℕ). v ≤ most_number) s.order (task_on row) so.tasks.1 (order-test row passed));
+          tasks = (
+            omega (arith, length_push s.order (task_on row)),
+            All-push (λ (v : ℕ). v ≤ most_number) s.order (task_on row) so.tasks.1 (order-test row passed),
+          );
           peak_fits = so.peak_fits;
           claims_fit = so.claims_fit;
         },
@@ -134,15 +157,20 @@ whole : (s : Stated) → IsInPriority s → s.count ≤ length s.priority → Is
 whole s at full =
     elim at.count [
       | inl none ↦ inl (empty s.priority (let within = at.within in omega arith))
-      | inr all ↦ inr (subst (λ (n : ℕ). IsPerm n s.priority) at.tasks (perm_from_part s.tasks s.priority at.part (let within = at.within in omega arith)))
+      | inr all ↦
+          inr (subst (λ (n : ℕ). IsPerm n s.priority) at.tasks
+          (perm_from_part s.tasks s.priority at.part (let within = at.within in omega arith)))
     ] where
       empty : (xs : List ℕ) → length xs ≤ 0 → xs ≡ []
       empty [] le = refl
       empty (x ∷ xs) le = absurd (omega arith)
 
-priority-passed : (s : Stated) (row : Row) → s.stage ≡ stages.Priority → IsSoFar s.order s.peak s.claims → At stages.Priority s → first_failure (staged_tests stages.Priority s row) ≡ None → Holds (staged_next stages.Priority s row)
+priority-passed : (s : Stated) (row : Row) → s.stage ≡ stages.Priority → IsSoFar s.order s.peak s.claims
+    → At stages.Priority s → first_failure (staged_tests stages.Priority s row) ≡ None → Holds (staged_next stages.Priority s row)
 priority-passed s row stage so at = go (ltb (length s.priority) s.count) refl where
-  go : (b : Bool) → ltb (length s.priority) s.count ≡ b → first_failure (cond b (priority_tests s.tasks s.priority row) (peak_tests row)) ≡ None → Holds (cond b (with_rank s row) (peak_next s row))
+  go : (b : Bool) → ltb (length s.priority) s.count ≡ b
+      → first_failure (cond b (priority_tests s.tasks s.priority row) (peak_tests row)) ≡ None
+      → Holds (cond b (with_rank s row) (peak_next s row))
   go true e passed =
       let v = task_on row in
       let ranked = priority-test s.tasks s.priority row passed in
@@ -157,9 +185,12 @@ priority-passed s row stage so at = go (ltb (length s.priority) s.count) refl wh
       )
   go false e passed = peak-passed s row so (whole s at (ltb-false _ _ e)) passed
 
-claims-passed : (s : Stated) (row : Row) → s.stage ≡ stages.Claims → IsSoFar s.order s.peak s.claims → At stages.Claims s → first_failure (staged_tests stages.Claims s row) ≡ None → Holds (staged_next stages.Claims s row)
+claims-passed : (s : Stated) (row : Row) → s.stage ≡ stages.Claims → IsSoFar s.order s.peak s.claims
+    → At stages.Claims s → first_failure (staged_tests stages.Claims s row) ≡ None → Holds (staged_next stages.Claims s row)
 claims-passed s row stage so at = go (ltb (length s.claims) s.count) refl where
-  go : (b : Bool) → ltb (length s.claims) s.count ≡ b → first_failure (cond b (claim_tests s.claims row) (last_tests kinds.NoEnd row)) ≡ None → Holds (cond b (with_claim s row) (record s { stage = stages.Ended }))
+  go : (b : Bool) → ltb (length s.claims) s.count ≡ b
+      → first_failure (cond b (claim_tests s.claims row) (last_tests kinds.NoEnd row)) ≡ None
+      → Holds (cond b (with_claim s row) (record s { stage = stages.Ended }))
   go true e passed =
       let claim = claim-test s.claims row passed in
       let lt = ltb-true _ _ e in
@@ -170,14 +201,16 @@ claims-passed s row stage so at = go (ltb (length s.claims) s.count) refl where
           claims_fit = (
             omega (arith, length_push s.claims (claim_on row)),
             All-push IsClaimWithin s.claims (claim_on row) so.claims_fit.1 claim.0,
-            rise_push 0 s.claims (claim_on row) so.claims_fit.2 (subst (λ (n : ℕ). n < (claim_on row).position) (last_position_is s.claims) claim.1),
+            rise_push 0 s.claims (claim_on row) so.claims_fit.2
+                (subst (λ (n : ℕ). n < (claim_on row).position) (last_position_is s.claims) claim.1),
           );
         },
         subst (λ (st : Stage). At st (with_claim s row)) (sym stage) (at.0, at.1),
       )
   go false e passed = (so, at.0)
 
-line-passed : (stage : Stage) (s : Stated) (row : Row) → s.stage ≡ stage → IsSoFar s.order s.peak s.claims → At stage s → first_failure (staged_tests stage s row) ≡ None → Holds (staged_next stage s row)
+line-passed : (stage : Stage) (s : Stated) (row : Row) → s.stage ≡ stage → IsSoFar s.order s.peak s.claims
+    → At stage s → first_failure (staged_tests stage s row) ≡ None → Holds (staged_next stage s row)
 line-passed stages.Header s row e so at passed = (so, at)
 line-passed stages.OrderSection s row e so at passed = (so, (leb-true _ _ (hold _ _ _ _ _ _ passed).1, omega (arith, ap length at.0), at.1))
 line-passed stages.Order s row e so at passed = order-passed s row e so at passed
@@ -195,7 +228,10 @@ rows-passed all before (row ∷ rest) e passed holds =
 
 begins : Holds (stated [])
 unfolding stated
-begins = (record { tasks = (omega arith, All-nil _); peak_fits = omega arith; claims_fit = (omega arith, All-nil IsClaimWithin, tt) }, (refl, refl))
+begins = (
+  record { tasks = (omega arith, All-nil _); peak_fits = omega arith; claims_fit = (omega arith, All-nil IsClaimWithin, tt) },
+  (refl, refl),
+)
 
 ended-ranked : (stage : Stage) (s : Stated) → is_ended stage ≡ true → At stage s → IsPriority (length s.order) s.priority
 ended-ranked stages.Ended s e at = at

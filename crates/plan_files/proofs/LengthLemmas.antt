@@ -16,7 +16,8 @@ use Rattle.plans.specs.declared.claim.Claim.{Claim}
 use Rattle.plans.specs.declared.claim.Direction.{Direction}
 use Rattle.plans.specs.declared.claim.Direction.TheVariants.{Forward, Backward}
 use Rattle.file_frame.specs.Printed.{header_line, section_line, end_line}
-use Rattle.file_frame.proofs.LengthLemmas.{IsLineWithin, mapped-within, text-append, text-cons, last-token, first-token, header-within, section-within}
+use Rattle.file_frame.proofs.LengthLemmas.{IsLineWithin, mapped-within, text-append, text-cons, last-token}
+use Rattle.file_frame.proofs.LengthLemmas.{first-token, header-within, section-within}
 
 -- ---- numbers
 
@@ -93,7 +94,8 @@ priority-within : (v : Version) (n : ℕ) (priority : List ℕ) → n ≤ most_t
     → length (text_of_lines (priority_lines v priority)) ≤ 29 + 11 * most_tasks
 priority-within One n priority few is = omega arith
 priority-within Two n priority few (inl none) =
-    tasks-within (codes "priority") priority (omega arith) (omega (arith, ap length none)) (All-same IsSmall priority [] none (All-nil IsSmall))
+    tasks-within (codes "priority") priority (omega arith)
+    (omega (arith, ap length none)) (All-same IsSmall priority [] none (All-nil IsSmall))
 priority-within Two n priority few (inr ranks) =
     let len = ranks.len in
     let small = All-weaker (IsVertex n) IsSmall (λ v task. let le = task.1 in omega arith) priority ranks.vertices in

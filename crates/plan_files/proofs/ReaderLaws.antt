@@ -10,7 +10,8 @@ use Rattle.file_frame.specs.declared.version.Version.TheVariants.{One, Two}
 use Rattle.mp_text.specs.Grammar.{ArePassed}
 use Rattle.mp_text.specs.Reading.{Follows}
 use Rattle.mp_text.specs.ReadingLaws.{tested-follows}
-use Rattle.plan_files.specs.PlanFile.{Stated, stated, nothing, task_on, claim_on, plan_version, with_end, with_claims, with_peak, with_ranks, after_order_in, with_order, plan_format, tests_after, end_tests_after}
+use Rattle.plan_files.specs.PlanFile.{Stated, stated, nothing, task_on, claim_on, plan_version, with_end, with_claims, with_peak}
+use Rattle.plan_files.specs.PlanFile.{with_ranks, after_order_in, with_order, plan_format, tests_after, end_tests_after}
 use Rattle.plan_files.specs.Reader.{next, after_order_next, plan_step, plan_end, took}
 use Rattle.plans.specs.declared.claim.Claim.{Claim}
 use Rattle.plan_files.specs.declared.stage.Stage.TheVariants as stages
@@ -68,7 +69,8 @@ end_push s count claims (last ∷ rows) row full = refl
 abbrev pub at_peak : Stated → ℕ → Stated
 at_peak s peak = record s { stage = stages.ClaimsSection; peak = peak }
 
-claims_push : (s : Stated) (peak : ℕ) (rows : List Row) (row : Row) → s.claims ≡ [] → with_claims (at_peak s peak) (rows ++ row ∷ []) ≡ next (with_claims (at_peak s peak) rows) row
+claims_push : (s : Stated) (peak : ℕ) (rows : List Row) (row : Row) → s.claims ≡ []
+    → with_claims (at_peak s peak) (rows ++ row ∷ []) ≡ next (with_claims (at_peak s peak) rows) row
 claims_push s peak [] row fresh = rw (drop-nil (stated_on (codes "claims") row), take-nil (stated_on (codes "claims") row), fresh) refl
 claims_push s peak (section ∷ rows) row fresh =
     let n = stated_on (codes "claims") section in
@@ -77,18 +79,21 @@ claims_push s peak (section ∷ rows) row fresh =
       | inr p ↦ rw (p.same, p.later) (end_push (at_peak s peak) n (map claim_on (take n rows)) (drop n rows) row p.full)
     ]
 
-peak_push : (s : Stated) (section : Row) (rows : List Row) (row : Row) → s.claims ≡ [] → with_peak s (section ∷ (rows ++ row ∷ [])) ≡ next (with_peak s (section ∷ rows)) row
+peak_push : (s : Stated) (section : Row) (rows : List Row) (row : Row) → s.claims ≡ []
+    → with_peak s (section ∷ (rows ++ row ∷ [])) ≡ next (with_peak s (section ∷ rows)) row
 peak_push s section rows row fresh = claims_push s (stated_on (codes "peak") section) rows row fresh
 
 abbrev pub at_ranks : Stated → ℕ → List ℕ → Stated
 at_ranks s count priority = record s { stage = stages.Priority; tasks = s.count; count = count; priority = priority }
 
-ranked_push : (s : Stated) (count : ℕ) (priority : List ℕ) (rows : List Row) (row : Row) → s.claims ≡ [] → nat_lt (length priority) count ≡ false
+ranked_push : (s : Stated) (count : ℕ) (priority : List ℕ) (rows : List Row) (row : Row)
+    → s.claims ≡ [] → nat_lt (length priority) count ≡ false
     → with_peak (at_ranks s count priority) (rows ++ row ∷ []) ≡ next (with_peak (at_ranks s count priority) rows) row
 ranked_push s count priority [] row fresh full = rw full refl
 ranked_push s count priority (section ∷ rows) row fresh full = peak_push (at_ranks s count priority) section rows row fresh
 
-ranks_push : (s : Stated) (section : Row) (rows : List Row) (row : Row) → s.claims ≡ [] → with_ranks s (section ∷ (rows ++ row ∷ [])) ≡ next (with_ranks s (section ∷ rows)) row
+ranks_push : (s : Stated) (section : Row) (rows : List Row) (row : Row) → s.claims ≡ []
+    → with_ranks s (section ∷ (rows ++ row ∷ [])) ≡ next (with_ranks s (section ∷ rows)) row
 ranks_push s section rows row fresh =
     let n = stated_on (codes "priority") section in
     elim (within_or_past task_on n rows row) [
@@ -113,16 +118,22 @@ after_more One s section rows row fresh = peak_push s section rows row fresh
 after_more Two s section rows row fresh = ranks_push s section rows row fresh
 
 ordered_push : (s : Stated) (count : ℕ) (order : List ℕ) (rows : List Row) (row : Row) → s.claims ≡ [] → nat_lt (length order) count ≡ false
-    → after_order_in s.version (at_order s count order) (rows ++ row ∷ []) ≡ next (after_order_in s.version (at_order s count order) rows) row
+    → after_order_in s.version (at_order s count order) (rows ++ row ∷ [])
+    ≡ next (after_order_in s.version (at_order s count order) rows) row
 ordered_push s count order [] row fresh full =
     rw (after_none s.version (at_order s count order), full) (after_one s.version (at_order s count order) row)
 ordered_push s count order (section ∷ rows) row fresh full = after_more s.version (at_order s count order) section rows row fresh
 
-order_push : (s : Stated) (section : Row) (rows : List Row) (row : Row) → s.claims ≡ [] → with_order s (section ∷ (rows ++ row ∷ [])) ≡ next (with_order s (section ∷ rows)) row
+order_push : (s : Stated) (section : Row) (rows : List Row) (row : Row) → s.claims ≡ []
+    → with_order s (section ∷ (rows ++ row ∷ [])) ≡ next (with_order s (section ∷ rows)) row
 order_push s section rows row fresh =
     let n = stated_on (codes "order") section in
     elim (within_or_past task_on n rows row) [
-      | inl w ↦ rw (w.more, w.still_none, w.none) (rw (after_none s.version (at_order s n (map task_on (take n rows) ++ task_on row ∷ [])), after_none s.version (at_order s n (map task_on (take n rows))), w.open_yet) refl)
+      | inl w ↦ rw (w.more, w.still_none, w.none) (rw (
+        after_none s.version (at_order s n (map task_on (take n rows) ++ task_on row ∷ [])),
+        after_none s.version (at_order s n (map task_on (take n rows))),
+        w.open_yet,
+      ) refl)
       | inr p ↦ rw (p.same, p.later) (ordered_push s n (map task_on (take n rows)) (drop n rows) row fresh p.full)
     ]
 
@@ -143,7 +154,9 @@ pub step_follows : (s : Stated) (before : List Row) (row : Row) → took s befor
     Follows (tests_after (stated before) row) (λ after. took after (before ++ row ∷ []) × (plan_format ≡ plan_format)) (plan_step s row)
 unfolding plan_step
 step_follows s before row taken passed =
-    rw taken (tested-follows (tests_after (stated before) row) (next (stated before) row) (λ after. took after (before ++ row ∷ []) × (plan_format ≡ plan_format))
+    rw taken
+    (tested-follows (tests_after (stated before) row) (next (stated before) row)
+    (λ after. took after (before ++ row ∷ []) × (plan_format ≡ plan_format))
     (λ _. (sym (stated_push before row), refl)))
 
 pub end_follows : (s : Stated) (rows : List Row) (past : ℕ) → took s rows → ArePassed plan_format rows →

@@ -8,6 +8,7 @@ use Rattle.file_frame.specs.Printed.{section_line}
 
 abbrev pub invariant-loop-claim : goal.invariant-loop-claim
 invariant-loop-claim l = record {
-  text : l.report ≡ l.fn.report ++ text_of_lines (section_line (codes "claims") (length l.claims) ∷ map claim_line (take l.claim-index l.claims));
+  text : l.report
+      ≡ l.fn.report ++ text_of_lines (section_line (codes "claims") (length l.claims) ∷ map claim_line (take l.claim-index l.claims));
   start : IsTrue (is_line_start l.report);
 }

@@ -13,5 +13,6 @@ read_with-requires c = c.in_ok-new.ensures
 pub new-requires-2 : goal.new-requires-2
 new-requires-2 c =
     let read = c.in_ok-reader.ensures.read in
-    let is = reads-is_plan c.args.bytes.now (plan_stated (stated (rows_of_bytes Commented c.args.bytes.now))) (record { form = read.0; stated = refl }) in
+    let is = reads-is_plan c.args.bytes.now (plan_stated (stated (rows_of_bytes Commented c.args.bytes.now)))
+    (record { form = read.0; stated = refl }) in
     rw c.into_vertices.ensures (subst IsPlan (sym (ap plan_stated (c.reader.view_is ∙ read.1))) is)
