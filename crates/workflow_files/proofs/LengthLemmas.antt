@@ -16,6 +16,7 @@ use Rattle.sp_terms.specs.Values.{IsTerms, IsWithinLimits, added_tasks}
 use Rattle.workflow_files.specs.WorkflowText.{position_numbers, position_line, workflow_text_in}
 use Rattle.workflow_files.proofs.PrintedLemmas.{small_numbers}
 use Rattle.sp_terms.proofs.Standing.{standing}
+use Rattle.mp_text.specs.Report.{text_of_lines}
 use Rattle.file_frame.specs.Printed.{header_line, section_line, end_line}
 use Rattle.file_frame.proofs.PrintedLaws.{IsSmall}
 use Rattle.file_frame.proofs.LengthLemmas.{IsLineWithin, text-append, text-cons, last-token, first-token, header-within, section-within}
