@@ -186,11 +186,11 @@ module _ (system : SharedTaskSystem) (order : List ℕ) where
   pub reaches-start : (memory : ℕ) → memory ≡ shared_memory system (stands_in []) → Reaches system order 0 memory memory
   reaches-start memory is = record { memory_is = is; low = omega arith; peak_is = omega (arith, is, peak-ge system [] order) }
 
-  pub reaches-next : (i memory peak later most : ℕ) → i < length order → Reaches system order i memory peak
+  pub reaches-next : (i memory peak later running : ℕ) → i < length order → Reaches system order i memory peak
       → later ≡ shared_memory system (stands_in (take (i + 1) order))
-      → most ≡ max (max peak (shared_running system (stands_in (take i order)) (get_or order i 0))) later
-      → Reaches system order (i + 1) later most
-  reaches-next i memory peak later most lt at later_is most_is =
+      → running ≡ shared_running system (stands_in (take i order)) (get_or order i 0)
+      → Reaches system order (i + 1) later (max (max peak running) later)
+  reaches-next i memory peak later running lt at later_is running_is =
       let v = get_or order i 0 in
       let split : shared_peak_from system (take i order) (drop i order)
       ≡ max (shared_memory system (stands_in (take i order))) (max (shared_running system (stands_in (take i order)) v) (shared_peak_from system (take (i + 1) order) (drop (i + 1) order))) =
@@ -198,10 +198,10 @@ module _ (system : SharedTaskSystem) (order : List ℕ) where
       ∙ ap (λ (l : List ℕ). max (shared_memory system (stands_in (take i order))) (max (shared_running system (stands_in (take i order)) v) (shared_peak_from system l (drop (i + 1) order)))) (sym (take_more order i 0 lt)) in
       record {
         memory_is = later_is;
-        low = omega (arith, most_is);
-        peak_is = join (shared_memory system (stands_in (take i order))) (shared_running system (stands_in (take i order)) v) later peak most
+        low = omega arith;
+        peak_is = join (shared_memory system (stands_in (take i order))) (shared_running system (stands_in (take i order)) v) later peak (max (max peak running) later)
             (shared_peak_from system (take i order) (drop i order)) (shared_peak_from system (take (i + 1) order) (drop (i + 1) order)) (shared_peak_of system order)
-            (omega (arith, at.memory_is, at.low)) (omega (arith, later_is, peak-ge system (take (i + 1) order) (drop (i + 1) order))) most_is split at.peak_is;
+            (omega (arith, at.memory_is, at.low)) (omega (arith, later_is, peak-ge system (take (i + 1) order) (drop (i + 1) order))) (omega (arith, running_is)) split at.peak_is;
       }
     where
       join : (now running later peak most from rest whole : ℕ) → now ≤ peak → later ≤ rest → most ≡ max (max peak running) later → from ≡ max now (max running rest)
@@ -210,5 +210,5 @@ module _ (system : SharedTaskSystem) (order : List ℕ) where
 
   pub reaches-end : (i memory peak : ℕ) → length order ≤ i → Reaches system order i memory peak → peak ≡ shared_peak_of system order
   reaches-end i memory peak le at =
-      let none : shared_peak_from system (take i order) (drop i order) ≡ shared_memory system (stands_in (take i order)) = ap (shared_peak_from system (take i order)) (drop_all order i le) in
+      let none : shared_peak_from system (take i order) (drop i order) ≡ shared_memory system (stands_in (take i order)) = ap (shared_peak_from system (take i order)) (drop_all i order le) in
       omega (arith, none, at.memory_is, at.low, at.peak_is)

@@ -1,12 +1,16 @@
 -- Sizes summed by a number that each item has: its producer, the task that alone reads it, the place after which it is freed.
 use Rattle.std.proofs.Common.{◌≡◌, ℕ, ◌+◌, ◌<◌, ◌≤◌, Bool, true, false, cond, List, length, take, get_or, Option, refl, sym, ap, subst, ◌∙◌, arith}
-use Rattle.std.specs.Prelude.{None, [], Some}
-use Rattle.std.specs.List.{sum_by}
+use Rattle.std.specs.Prelude.{None, [], ◌∷◌, Some, max}
+use Rattle.std.specs.List.{All, sum_by}
 use Rattle.std.specs.Option.{ForSome}
 use Rattle.std.proofs.lemmas.List.Sums.{sum_by_more, sum_by_more_le_part, sum_by-le-sum_by}
+use Rattle.std.proofs.lemmas.List.Elements.{All-head}
+use Rattle.std.proofs.lemmas.Option.{same_Some}
 use Rattle.mp_system.specs.System.{is_named}
-use Rattle.shared_systems.specs.Shared.{SharedItem, shared_item_at, shared_size_if, shared_size_where}
+use Rattle.graphs.specs.Graph.{IsAmong}
+use Rattle.shared_systems.specs.Shared.{SharedItem, shared_item_at, only, shared_size_if, shared_size_where}
 use Rattle.shared_systems.specs.Bounds.{shared_size}
+use Rattle.shared_systems.specs.Places.{last_place, last_if_any}
 
 abbrev pub no_item : SharedItem
 no_item = record { size = 0; from = None; readers = [] }
@@ -16,6 +20,11 @@ part-le test x = elim (test x) as (λ b. cond b x.size 0 ≤ x.size) [ true ↦ 
 
 pub where-le : (test : SharedItem → Bool) (xs : List SharedItem) → shared_size_where test xs ≤ sum_by shared_size xs
 where-le test xs = sum_by-le-sum_by (shared_size_if test) shared_size xs (part-le test)
+
+pub part-fits : (test : SharedItem → Bool) (xs : List SharedItem) (i memory size : ℕ) → i < length xs → memory ≡ shared_size_where test (take i xs)
+    → size ≡ (shared_item_at xs i).size → memory + size ≤ sum_by shared_size xs
+part-fits test xs i memory size lt is size_is =
+    omega (arith, is, size_is, sum_by_more_le_part (shared_size_if test) shared_size xs i no_item lt (part-le test))
 
 module _ (key : SharedItem → Option ℕ) (xs : List SharedItem) where
   -- the sums of the first items
@@ -33,3 +42,18 @@ module _ (key : SharedItem → Option ℕ) (xs : List SharedItem) where
       → get_or sums v 0 + size ≤ sum_by shared_size xs
   sums-fit sums i size lt are size_is v =
       omega (arith, are v, size_is, sum_by_more_le_part (shared_size_if (λ x. is_named (key x) v)) shared_size xs i no_item lt (part-le (λ x. is_named (key x) v)))
+
+-- ---- the numbers are small
+
+pub only_small : (n : ℕ) (readers : List ℕ) → All (IsAmong n) readers → (x : ℕ) → only readers ≡ Some x → x ≤ n
+only_small n [] within x is = absurd cc
+only_small n (c ∷ []) within x is = let here = All-head (IsAmong n) c [] within in omega (arith, same_Some c x is, here.1)
+only_small n (c ∷ d ∷ cs) within x is = absurd cc
+
+last_small : (place : ℕ → ℕ) (m : ℕ) → ((v : ℕ) → place v ≤ m) → (readers : List ℕ) → last_place place readers ≤ m
+last_small place m small [] = omega arith
+last_small place m small (c ∷ cs) = omega (arith, small c, last_small place m small cs)
+
+pub last_any_small : (place : ℕ → ℕ) (m : ℕ) → ((v : ℕ) → place v ≤ m) → (readers : List ℕ) (x : ℕ) → last_if_any place readers ≡ Some x → x ≤ m
+last_any_small place m small [] x is = absurd cc
+last_any_small place m small (c ∷ cs) x is = omega (arith, same_Some (last_place place (c ∷ cs)) x is, last_small place m small (c ∷ cs))
