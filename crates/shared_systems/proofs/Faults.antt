@@ -80,7 +80,7 @@ module _ (system : SharedTaskSystem) (order places : List ℕ) (are : (u : ℕ) 
 module _ (system : SharedTaskSystem) (order places : List ℕ) (early : Bool) (are : (u : ℕ) → u ≤ length system.tasks → get_or places u 0 ≡ place_in order u)
     (within : All (IsSharedItemWithin (length system.tasks)) system.items) (i : ℕ) (lt : i < length order) (runs : Runs system order i) where
   pub unknown-here : (get_or order i 0 ≡ 0) ⊎ (length system.tasks < get_or order i 0) → first_shared_fault system order ≡ Some (i + 1, Unknown)
-  unknown-here no = fault-here system order i (get_or order i 0) lt refl Unknown runs (unknown system (stands_in (take i order)) (get_or order i 0) no)
+  unknown-here none = fault-here system order i (get_or order i 0) lt refl Unknown runs (unknown system (stands_in (take i order)) (get_or order i 0) none)
 
   module _ (task : HasTask system (get_or order i 0)) where
     pub repeated-here : (get_or places (get_or order i 0) 0 ≡ i → ⊥) → first_shared_fault system order ≡ Some (i + 1, Repeated)
@@ -108,14 +108,14 @@ module _ (system : SharedTaskSystem) (order places : List ℕ) (early : Bool) (a
       from_not a false false e f = absurd (let no = sym f ∙ e in cc)
 
       pub early-here : early ≡ true → first_shared_fault system order ≡ Some (i + 1, TooEarly)
-      early-here yes =
+      early-here late =
           fault-here system order i (get_or order i 0) lt refl TooEarly runs
-          (too_early system (stands_in (take i order)) (get_or order i 0) task not_done (has ∙ from_not early (are_in_time (λ u. get_or places u 0) (get_or order i 0) system.items) true is yes))
+          (too_early system (stands_in (take i order)) (get_or order i 0) task not_done (has ∙ from_not early (are_in_time (λ u. get_or places u 0) (get_or order i 0) system.items) true is late))
 
       pub on-next : early ≡ false → Runs system order (i + 1)
-      on-next no =
+      on-next timely =
           runs-next system order i (get_or order i 0) lt refl runs
-          (no_fault system (stands_in (take i order)) (get_or order i 0) task not_done (has ∙ from_not early (are_in_time (λ u. get_or places u 0) (get_or order i 0) system.items) false is no))
+          (no_fault system (stands_in (take i order)) (get_or order i 0) task not_done (has ∙ from_not early (are_in_time (λ u. get_or places u 0) (get_or order i 0) system.items) false is timely))
 
 -- ---- the end
 

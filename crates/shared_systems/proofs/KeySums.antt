@@ -50,7 +50,7 @@ only_small n [] within x is = absurd cc
 only_small n (c ∷ []) within x is = let here = All-head (IsAmong n) c [] within in omega (arith, same_Some c x is, here.1)
 only_small n (c ∷ d ∷ cs) within x is = absurd cc
 
-last_small : (place : ℕ → ℕ) (m : ℕ) → ((v : ℕ) → place v ≤ m) → (readers : List ℕ) → last_place place readers ≤ m
+pub last_small : (place : ℕ → ℕ) (m : ℕ) → ((v : ℕ) → place v ≤ m) → (readers : List ℕ) → last_place place readers ≤ m
 last_small place m small [] = omega arith
 last_small place m small (c ∷ cs) = omega (arith, small c, last_small place m small cs)
 
