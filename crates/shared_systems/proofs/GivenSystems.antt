@@ -16,13 +16,18 @@ use Rattle.mp_system.specs.Judged.{TasksPass}
 use Rattle.mp_system.proofs.Within.{at_place, extra_fits, no_task}
 use Rattle.graphs.specs.Graph.{CanBeOrdered}
 use Rattle.shared_systems.specs.declared.given.GivenSharedItem.{GivenSharedItem}
+use Rattle.shared_systems.specs.declared.judged.SharedFault.{SharedFault}
+use Rattle.shared_systems.specs.declared.judged.SharedFault.TheVariants as faults
 use Rattle.shared_systems.specs.declared.judged.SharedItemTest.{SharedItemTest}
 use Rattle.shared_systems.specs.declared.judged.SharedItemTest.TheVariants as tests
 use Rattle.shared_systems.specs.Shared.{SharedTaskSystem, SharedItem, HasOwnShare, shared_item_at}
 use Rattle.shared_systems.specs.Bounds.{IsSharedItemWithin, IsSharedSystem, most_uses, reader_count, shared_size, use_arcs}
 use Rattle.shared_systems.specs.Given.{items_given, count_given, shared_system_given}
-use Rattle.shared_systems.specs.Judged.{IsPlainShared, ArePlainShared, SharedItemPasses, SharedItemsPass, shared_total_given}
+use Rattle.shared_systems.specs.Judged.{IsPlainShared, ArePlainShared, IsSharedFault, IsSharedRefusal, SharedItemPasses, SharedItemsPass, refusal_of, shared_total_given}
 use Rattle.shared_systems.proofs.KeySums.{no_item}
+
+abbrev pub system_of : List Task → List SharedItem → SharedTaskSystem
+system_of tasks items = record { tasks = tasks; items = items }
 
 pub length-given : (xs : List GivenSharedItem) (readers : List ℕ) → length (items_given xs readers) ≡ length xs
 length-given [] readers = refl
@@ -33,19 +38,30 @@ taken zero xs = omega arith
 taken (suc n) [] = omega arith
 taken (suc n) (x ∷ xs) = omega (arith, taken n xs)
 
+-- an item that takes the first of some readers
+abbrev given : GivenSharedItem → List ℕ → SharedItem
+given x readers = record { size = x.size; from = end_given x.from; readers = take x.readers readers }
+
 uses-given : (xs : List GivenSharedItem) (readers : List ℕ) → sum_by reader_count (items_given xs readers) ≤ sum_by count_given xs
 uses-given [] readers = omega arith
 uses-given (x ∷ xs) readers =
-    let rest = items_given xs (drop x.readers readers) in
-    let first = item (x.size) x.from (take x.readers readers) in
-    omega (arith, sum_by-cons reader_count first rest, sum_by-cons count_given x xs, taken x.readers readers, uses-given xs (drop x.readers readers))
-  where
-    item : ℕ → ℕ → List ℕ → SharedItem
-    item size from readers = record { size = size; from = end_given from; readers = readers }
+    omega (
+      arith,
+      sum_by-cons reader_count (given x readers) (items_given xs (drop x.readers readers)),
+      sum_by-cons count_given x xs,
+      taken x.readers readers,
+      uses-given xs (drop x.readers readers),
+    )
 
 sizes-given : (xs : List GivenSharedItem) (readers : List ℕ) → sum_by shared_size (items_given xs readers) ≡ sum_by (λ (x : GivenSharedItem). x.size) xs
 sizes-given [] readers = refl
-sizes-given (x ∷ xs) readers = omega (arith, sizes-given xs (drop x.readers readers))
+sizes-given (x ∷ xs) readers =
+    omega (
+      arith,
+      sum_by-cons shared_size (given x readers) (items_given xs (drop x.readers readers)),
+      sum_by-cons (λ (y : GivenSharedItem). y.size) x xs,
+      sizes-given xs (drop x.readers readers),
+    )
 
 -- ---- each task and each item
 
@@ -89,9 +105,24 @@ module _ (tasks : List GivenTask) (items : List GivenSharedItem) (readers : List
   plain_from all made all_are made_is total = rw (all_are, made_is) (plain_given total)
 
   -- the sums that are held against the limit
-  pub total_from : (all : List Task) (made : List SharedItem) → all ≡ map task_given tasks → made ≡ items_given items readers
-      → sum_by extra_size all + sum_by shared_size made ≡ shared_total_given tasks items
-  total_from all made all_are made_is = rw (all_are, made_is) (omega (arith, sum_by-map extra_size task_given tasks, sizes-given items readers))
+  pub total_at : (all : List Task) (made : List SharedItem) (extras sizes : ℕ) → all ≡ map task_given tasks → made ≡ items_given items readers
+      → extras ≡ sum_by extra_size all → sizes ≡ sum_by shared_size made → extras + sizes ≡ shared_total_given tasks items
+  total_at all made extras sizes all_are made_is extras_are sizes_are =
+      let extra = ap (λ (l : List Task). sum_by extra_size l) all_are in
+      let size = ap (λ (l : List SharedItem). sum_by shared_size l) made_is in
+      omega (arith, extras_are, sizes_are, extra, size, sum_by-map extra_size task_given tasks, sizes-given items readers)
+
+  -- a fault of the system is what the arrays are refused with
+  pub refused_from : (all : List Task) (made : List SharedItem) (fault : SharedFault) → all ≡ map task_given tasks → made ≡ items_given items readers
+      → shared_total_given tasks items ≤ most_total → IsSharedFault (system_of all made) fault → IsSharedRefusal tasks items readers (refusal_of fault)
+  refused_from all made fault all_are made_is total is =
+      let same = ap (λ (l : List Task). system_of l made) all_are ∙ ap (system_of (map task_given tasks)) made_is in
+      refused fault (subst (λ (system : SharedTaskSystem). IsSharedFault system fault) same is)
+    where
+      refused : (fault : SharedFault) → IsSharedFault (shared_system_given tasks items readers) fault → IsSharedRefusal tasks items readers (refusal_of fault)
+      refused (faults.Cycle v) is = (plain, total, is)
+      refused (faults.Share v) is = (plain, total, is)
+      refused faults.NoMemory is = tt
 
 pub system_from : (system : SharedTaskSystem) → IsPlainShared system → Each (length system.tasks) (CanBeOrdered (use_arcs system.items))
     → Each (length system.tasks) (HasOwnShare system) → IsSharedSystem system
@@ -105,3 +136,4 @@ system_from system plain ordered shares = record {
   ordered = ordered;
   shares = shares;
 }
+

@@ -124,3 +124,9 @@ IsSharedRefusal tasks items readers (refusals.Share v) =
     ArePlainShared tasks items readers × (shared_total_given tasks items ≤ most_total)
     × IsSharedFault (shared_system_given tasks items readers) (faults.Share v)
 IsSharedRefusal tasks items readers refusals.NoMemory = Unit {0}
+
+-- what a caller is told of a fault
+abbrev pub refusal_of : SharedFault → SharedRefusal
+refusal_of (faults.Cycle v) = refusals.Cycle v
+refusal_of (faults.Share v) = refusals.Share v
+refusal_of faults.NoMemory = refusals.NoMemory

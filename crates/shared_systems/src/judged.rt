@@ -7,7 +7,7 @@ ghost use Rattle.mp_system.specs.System.{extra_size, IsTaskWithin};
 ghost use Rattle.mp_system.specs.Given.{task_given};
 ghost use Rattle.shared_systems.specs.Bounds.{IsSharedSystem, shared_size};
 ghost use Rattle.shared_systems.specs.Given.{items_given, count_given, shared_system_given};
-ghost use Rattle.shared_systems.specs.Judged.{IsPlainShared, IsSharedFault, IsSharedRefusal, ArePlainShared, SharedItemsPass};
+ghost use Rattle.shared_systems.specs.Judged.{IsPlainShared, IsSharedFault, IsSharedRefusal, ArePlainShared, SharedItemsPass, refusal_of};
 ghost use Rattle.std.specs.Prelude.{All};
 
 use crate::NoMemory;
@@ -219,6 +219,17 @@ fn sizes_of(items: &SharedItems, count: usize) -> u64
     total
 }
 
+// What a caller is told of a fault.
+fn refusal_of(fault: SharedFault) -> SharedRefusal
+    ensures { result ≡ refusal_of fault }
+{
+    match fault {
+        SharedFault::Cycle(task) => SharedRefusal::Cycle(task),
+        SharedFault::Share(task) => SharedRefusal::Share(task),
+        SharedFault::NoMemory => SharedRefusal::NoMemory,
+    }
+}
+
 /// The shared system that a caller's arrays give, or why they give none: the first test that fails, with the lowest task or the first item
 /// that fails it. The tests are in the order of [`SharedRefusal`] and, of tasks and items, in the order of [`TaskTest`] and
 /// [`SharedItemTest`]. Linear in the tasks, the items and the readers of all items.
@@ -239,8 +250,6 @@ pub fn shared_system_of_arrays(
     }
     match shared_system_of(alloc, all, made) {
         Ok(system) => Ok(system),
-        Err(SharedFault::Cycle(task)) => Err(SharedRefusal::Cycle(task)),
-        Err(SharedFault::Share(task)) => Err(SharedRefusal::Share(task)),
-        Err(SharedFault::NoMemory) => Err(SharedRefusal::NoMemory),
+        Err(fault) => Err(refusal_of(fault)),
     }
 }
