@@ -1,17 +1,17 @@
 -- The first fault of an order, from the places of its tasks.
-use Rattle.std.proofs.Common.{◌≡◌, ℕ, ◌+◌, ◌<◌, ◌≤◌, Bool, true, false, cond, not, ◌&&◌, ◌||◌, eqb, ltb, leb, List, [], ◌∷◌, ◌++◌, length, take, drop, get_or, Option, Some, None, refl, sym, ap, subst, ◌∙◌, arith, inl, inr, ◌⊎◌}
+use Rattle.std.proofs.Common.{◌≡◌, ℕ, ◌+◌, ◌<◌, ◌≤◌, Bool, true, false, cond, not, ◌||◌, ltb, List, [], ◌∷◌, ◌++◌, length, take, drop, get_or, Option, Some, None, refl, sym, ap, ◌∙◌, arith, inl, inr, ◌⊎◌}
 use Rattle.std.specs.Prelude.{All}
-use Rattle.std.specs.List.{list_all, list_any}
+use Rattle.std.specs.List.{list_all}
 use Rattle.std.specs.Option.{option_map_or, ForSome}
 use Rattle.std.proofs.lemmas.List.{take_more, take_all, drop_more, drop_all, length-take-le}
 use Rattle.std.proofs.lemmas.List.Elements.{All-head, All-tail}
-use Rattle.std.proofs.lemmas.Bool.{cases_Bool, cases_eq, cases_lt, ne_eqb, lt-ltb, le-ltb, le-leb, lt-leb}
+use Rattle.std.proofs.lemmas.Bool.{cases_lt, lt-ltb, le-ltb, le-leb, lt-leb}
 use Rattle.mp_system.specs.declared.system.OrderKind.{OrderKind}
 use Rattle.mp_system.specs.declared.system.OrderKind.TheVariants.{Unknown, Repeated, TooEarly, Missing}
 use Rattle.mp_system.specs.Memory.{stands_in, is_done_or}
 use Rattle.shared_systems.specs.Shared.{SharedTaskSystem, SharedItem, HasTask, is_read_by}
 use Rattle.shared_systems.specs.SharedMemory.{is_made, has_inputs}
-use Rattle.shared_systems.specs.SharedTraversal.{has_task, shared_fault_of, shared_fault_after, first_shared_fault}
+use Rattle.shared_systems.specs.SharedTraversal.{shared_fault_of, shared_fault_after, first_shared_fault}
 use Rattle.shared_systems.specs.Bounds.{IsSharedItemWithin}
 use Rattle.shared_systems.specs.Places.{place_in, stands_before, are_in_time}
 use Rattle.shared_systems.proofs.OrderPlaces.{stands_take}

@@ -1,18 +1,17 @@
 -- The memory along a traversal: what a task adds, and what goes after it because its last reader has run.
-use Rattle.std.proofs.Common.{◌≡◌, ℕ, zero, suc, ◌+◌, ◌-◌, ◌<◌, ◌≤◌, max, Bool, true, false, cond, not, ◌&&◌, ◌||◌, eqb, eq-eqb, ltb, List, [], ◌∷◌, ◌++◌, length, take, drop, get_or, Option, Some, None, refl, sym, ap, subst, ◌∙◌, arith, inl, inr}
+use Rattle.std.proofs.Common.{◌≡◌, ℕ, zero, suc, ◌+◌, ◌<◌, ◌≤◌, max, true, cond, not, ◌&&◌, ◌||◌, eqb, eq-eqb, ltb, List, [], ◌∷◌, ◌++◌, length, take, drop, get_or, Option, Some, None, refl, sym, ap, ◌∙◌, arith, inl, inr}
 use Rattle.std.specs.Prelude.{All}
 use Rattle.std.specs.List.{list_all, list_any}
 use Rattle.std.proofs.lemmas.List.{take_more, drop_more, drop_all, take-append-drop}
 use Rattle.std.proofs.lemmas.List.Sums.{sum_by-cons}
-use Rattle.std.proofs.lemmas.List.Elements.{All-head, All-tail, All-get_or}
-use Rattle.std.proofs.lemmas.Bool.{cases_Bool, cases_eq, cases_lt, ne_eqb, lt-ltb, le-ltb, and_parts}
-use Rattle.mp_system.specs.System.{is_named}
+use Rattle.std.proofs.lemmas.List.Elements.{All-head, All-tail}
+use Rattle.std.proofs.lemmas.Bool.{cases_eq, cases_lt, ne_eqb, lt-ltb, le-ltb, and_parts}
 use Rattle.mp_system.specs.Memory.{stands_in}
 use Rattle.shared_systems.specs.Shared.{SharedTaskSystem, SharedItem, HasTask, is_read_by, is_made_by, shared_size_if, shared_size_where}
-use Rattle.shared_systems.specs.SharedMemory.{is_made, are_done, is_held, shared_memory, shared_running, shared_peak_from, shared_peak_of, has_inputs}
+use Rattle.shared_systems.specs.SharedMemory.{is_made, is_held, shared_memory, shared_running, shared_peak_from, shared_peak_of}
 use Rattle.shared_systems.specs.SharedTraversal.{IsSharedTraversal}
 use Rattle.shared_systems.specs.Bounds.{IsSharedItemWithin}
-use Rattle.shared_systems.specs.Places.{place_in, last_place, last_if_any, is_freed_at}
+use Rattle.shared_systems.specs.Places.{place_in, last_place, is_freed_at}
 use Rattle.shared_systems.proofs.Collectors.{count_of, count_of-cons, one_if, none_if}
 use Rattle.shared_systems.proofs.OrderPlaces.{place_here, place_later, stands_take, all_take}
 

@@ -1,10 +1,10 @@
 -- Tasks, items and readers that pass all tests are a shared system, but for orders and shares.
-use Rattle.std.proofs.Common.{◌≡◌, ℕ, zero, suc, ◌+◌, ◌-◌, ◌<◌, ◌≤◌, List, [], ◌∷◌, length, map, take, drop, get_or, refl, sym, ap, subst, ◌∙◌, arith}
+use Rattle.std.proofs.Common.{◌≡◌, ℕ, zero, suc, ◌+◌, ◌<◌, ◌≤◌, List, [], ◌∷◌, length, map, take, drop, get_or, refl, sym, ap, subst, ◌∙◌, arith}
 use Rattle.std.specs.List.{All, sum_by}
 use Rattle.std.proofs.lemmas.List.{length-map}
 use Rattle.std.proofs.lemmas.List.Sums.{sum_by-cons}
 use Rattle.std.proofs.lemmas.List.Elements.{All-from_get_or, All-map}
-use Rattle.limits.specs.Limits.{most_size, most_time, most_total, most_positions}
+use Rattle.limits.specs.Limits.{most_time, most_total}
 use Rattle.lists.specs.Numbers.{Each}
 use Rattle.lists.proofs.Lists.{sum_by-map}
 use Rattle.mp_system.specs.declared.system.Task.{Task}
@@ -20,8 +20,8 @@ use Rattle.shared_systems.specs.declared.judged.SharedFault.{SharedFault}
 use Rattle.shared_systems.specs.declared.judged.SharedFault.TheVariants as faults
 use Rattle.shared_systems.specs.declared.judged.SharedItemTest.{SharedItemTest}
 use Rattle.shared_systems.specs.declared.judged.SharedItemTest.TheVariants as tests
-use Rattle.shared_systems.specs.Shared.{SharedTaskSystem, SharedItem, HasOwnShare, shared_item_at}
-use Rattle.shared_systems.specs.Bounds.{IsSharedItemWithin, IsSharedSystem, most_uses, reader_count, shared_size, use_arcs}
+use Rattle.shared_systems.specs.Shared.{SharedTaskSystem, SharedItem, HasOwnShare}
+use Rattle.shared_systems.specs.Bounds.{IsSharedItemWithin, IsSharedSystem, reader_count, shared_size, use_arcs}
 use Rattle.shared_systems.specs.Given.{items_given, count_given, shared_system_given}
 use Rattle.shared_systems.specs.Judged.{IsPlainShared, ArePlainShared, IsSharedFault, IsSharedRefusal, SharedItemPasses, SharedItemsPass, refusal_of, shared_total_given}
 use Rattle.shared_systems.proofs.KeySums.{no_item}
@@ -136,4 +136,3 @@ system_from system plain ordered shares = record {
   ordered = ordered;
   shares = shares;
 }
-

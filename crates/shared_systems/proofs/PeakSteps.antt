@@ -1,6 +1,6 @@
 -- What the code of the peak needs of one task of a traversal: its sums fit, and nothing goes below 0.
-use Rattle.std.proofs.Common.{◌≡◌, ℕ, ◌+◌, ◌-◌, ◌<◌, ◌≤◌, max, Bool, true, false, cond, eqb, List, [], ◌∷◌, length, take, get_or, Option, Some, None, refl, sym, ap, ◌∙◌, arith, inl, inr}
-use Rattle.std.specs.List.{All, sum_by}
+use Rattle.std.proofs.Common.{◌≡◌, ℕ, ◌+◌, ◌-◌, ◌<◌, ◌≤◌, cond, List, [], ◌∷◌, length, take, get_or, Option, Some, refl, ap, arith, inl, inr}
+use Rattle.std.specs.List.{All}
 use Rattle.std.proofs.lemmas.List.{get_or_past}
 use Rattle.std.proofs.lemmas.List.Sums.{sum_by-cons, get_or-le-sum_by}
 use Rattle.std.proofs.lemmas.List.Elements.{All-head, All-tail, All-get_or, All-weaker}
@@ -12,8 +12,8 @@ use Rattle.mp_system.specs.Memory.{stands_in}
 use Rattle.shared_systems.specs.Shared.{SharedTaskSystem, SharedItem, HasTask, shared_task_at, shared_size_if, shared_size_where, is_made_by}
 use Rattle.shared_systems.specs.SharedMemory.{is_held, shared_memory, shared_running}
 use Rattle.shared_systems.specs.SharedTraversal.{IsSharedTraversal}
-use Rattle.shared_systems.specs.Bounds.{IsSharedItemWithin, IsSharedSystem, shared_size}
-use Rattle.shared_systems.specs.Places.{place_in, last_place, last_if_any, is_freed_at}
+use Rattle.shared_systems.specs.Bounds.{IsSharedItemWithin, IsSharedSystem}
+use Rattle.shared_systems.specs.Places.{place_in, last_if_any, is_freed_at}
 use Rattle.shared_systems.proofs.KeySums.{where-le}
 use Rattle.shared_systems.proofs.OrderPlaces.{place-le, last_place_same}
 use Rattle.shared_systems.proofs.Freeing.{Reaches, memory-next}

@@ -1,6 +1,6 @@
 -- The arcs of readers: each is one of a graph, there are as many as readers, and those of one item more.
-use Rattle.std.proofs.Common.{◌≡◌, ℕ, ◌+◌, ◌<◌, ◌≤◌, false, true, eq-eqb, List, [], ◌∷◌, ◌++◌, length, length-append, map, take, get_or, Option, Some, None, unwrap_or, refl, sym, ap, ◌∙◌, arith}
-use Rattle.std.specs.List.{All, flat_map, sum_by}
+use Rattle.std.proofs.Common.{◌≡◌, ℕ, ◌+◌, ◌<◌, false, eq-eqb, List, [], ◌∷◌, ◌++◌, length, length-append, map, take, Option, Some, None, unwrap_or, refl, sym, ap, ◌∙◌, arith}
+use Rattle.std.specs.List.{All, sum_by}
 use Rattle.std.specs.Option.{ForSome}
 use Rattle.std.proofs.lemmas.List.{take_more, length-map, flat_map_more}
 use Rattle.std.proofs.lemmas.List.Sums.{sum_by-cons}

@@ -76,7 +76,12 @@ fn push_waits_of(items: &mut Vec<Item>, collector: u32, readers: &[u32]) -> Resu
 }
 
 // What stands for the item at a place.
-fn push_item(items: &mut Vec<Item>, collector: u32, all: &SharedItems, i: usize) -> Result<(), NoMemory>
+fn push_item(
+    items: &mut Vec<Item>,
+    collector: u32,
+    all: &SharedItems,
+    i: usize,
+) -> Result<(), NoMemory>
     requires { i < length all.now }
     ensures { OnOk result (items.new.items ≡ items.old.items
         ++ (kept_item collector (shared_item_at all.now i) ∷ wait_items collector (shared_item_at all.now i))) }

@@ -23,7 +23,8 @@ mod weaving;
 pub use given::GivenSharedItem;
 pub use items::SharedItems;
 pub use judged::{
-    MOST_USES, SharedFault, SharedItemTest, SharedRefusal, shared_system_of, shared_system_of_arrays,
+    MOST_USES, SharedFault, SharedItemTest, SharedRefusal, shared_system_of,
+    shared_system_of_arrays,
 };
 use std::alloc::AllocError;
 pub use system::SharedSystem;

@@ -37,7 +37,12 @@ fn mark_late(late: &mut [bool], producer: Option<u32>, readers: &[u32], places: 
 }
 
 // For each of so many tasks whether it stands before a task that produces what it reads.
-fn early_tasks(alloc: Global, count: usize, items: &SharedItems, places: &[usize]) -> Result<Vec<bool>, NoMemory>
+fn early_tasks(
+    alloc: Global,
+    count: usize,
+    items: &SharedItems,
+    places: &[usize],
+) -> Result<Vec<bool>, NoMemory>
     requires few { count < 2 ^ 32 }
     requires len { length places.now ≡ count + 1 }
     requires within { All (IsSharedItemWithin count) items.now }
@@ -53,7 +58,12 @@ fn early_tasks(alloc: Global, count: usize, items: &SharedItems, places: &[usize
 }
 
 // The first place, counted from 1, at which the order fails to be a traversal, with the reason.
-fn first_fault(system: &SharedSystem, order: &[u32], places: &[usize], early: &[bool]) -> Option<OrderFault>
+fn first_fault(
+    system: &SharedSystem,
+    order: &[u32],
+    places: &[usize],
+    early: &[bool],
+) -> Option<OrderFault>
     requires len { (length places.now ≡ length system.now.tasks + 1) × (length early.now ≡ length system.now.tasks + 1) }
     requires places { (v : ℕ) → v ≤ length system.now.tasks → slice_index places.now v ≡ place_in order.now v }
     requires early { (v : ℕ) → slice_index_or early.now v false ≡ not (are_in_time (slice_index places.now) v system.now.items) }
@@ -97,7 +107,12 @@ fn last_if_any(readers: &[u32], places: &[usize]) -> Option<usize>
 }
 
 // For each place of an order the sizes of what is freed after the task there, together.
-fn freed_at(alloc: Global, len: usize, items: &SharedItems, places: &[usize]) -> Result<Vec<u64>, NoMemory>
+fn freed_at(
+    alloc: Global,
+    len: usize,
+    items: &SharedItems,
+    places: &[usize],
+) -> Result<Vec<u64>, NoMemory>
     requires few { len < 2 ^ 32 }
     requires places { (v : ℕ) → slice_index places.now v ≤ len }
     requires readers { All (λ x. All (λ c. c < length places.now) x.readers) items.now }
@@ -107,7 +122,11 @@ fn freed_at(alloc: Global, len: usize, items: &SharedItems, places: &[usize]) ->
 {
     let mut sums: Vec<u64> = vec![in alloc; 0; len + 1]?;
     for i in 0..items.len() {
-        add_size(&mut sums, last_if_any(items.readers(i), places), items.size(i));
+        add_size(
+            &mut sums,
+            last_if_any(items.readers(i), places),
+            items.size(i),
+        );
     }
     Ok(sums)
 }

@@ -68,7 +68,11 @@ pub fn own_inputs_of(alloc: Global, count: usize, items: &SharedItems) -> Result
 {
     let mut sums: Vec<u64> = vec![in alloc; 0; count + 1]?;
     for i in 0..items.len() {
-        add_size(&mut sums, place_of(only_of(items.readers(i))), items.size(i));
+        add_size(
+            &mut sums,
+            place_of(only_of(items.readers(i))),
+            items.size(i),
+        );
     }
     Ok(sums)
 }

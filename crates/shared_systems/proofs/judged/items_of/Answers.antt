@@ -1,4 +1,4 @@
-use Rattle.std.proofs.Common.{List, length, sym, ap, subst, arith}
+use Rattle.std.proofs.Common.{List, length, ap, subst, arith}
 use Rattle.shared_systems.specs.Shared.{SharedItem}
 use Rattle.shared_systems.specs.Judged.{IsFirstItemFault}
 use Rattle.shared_systems.proofs.GivenSystems.{length-given}

@@ -1,4 +1,4 @@
-use Rattle.std.proofs.Common.{ℕ, ◌≤◌, List, get_or, length, false, ap, arith}
+use Rattle.std.proofs.Common.{List, get_or, length, false, ap, arith}
 use Rattle.mp_system.specs.declared.system.Task.{Task}
 use Rattle.shared_systems.specs.Shared.{HasTask}
 use Rattle.shared_systems.proofs.Faults.{repeated-here, early-here, on-next}

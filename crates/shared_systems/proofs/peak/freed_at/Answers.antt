@@ -1,4 +1,4 @@
-use Rattle.std.proofs.Common.{ℕ, ◌<◌, length, get_or, sym, ◌∙◌, arith}
+use Rattle.std.proofs.Common.{◌<◌, length, get_or, sym, ◌∙◌, arith}
 use Rattle.shared_systems.specs.Shared.{SharedItem}
 use Rattle.shared_systems.specs.Places.{last_if_any}
 use Rattle.shared_systems.proofs.KeySums.{sums-fit, last_any_small}

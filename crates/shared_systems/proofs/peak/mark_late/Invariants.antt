@@ -1,4 +1,4 @@
-use Rattle.std.proofs.Common.{◌≡◌, ◌||◌, ℕ, Some, false, length, take, get_or}
+use Rattle.std.proofs.Common.{◌≡◌, ◌||◌, ℕ, Some, false, take, get_or}
 use Rattle.shared_systems.specs.Places.{is_late}
 use Rattle.shared_systems.proofs.peak.mark_late.Given as goal
 

@@ -1,4 +1,4 @@
-use Rattle.std.proofs.Common.{ℕ, ◌-◌, ◌+◌, List, get_or, ap, refl, ◌∙◌, arith}
+use Rattle.std.proofs.Common.{◌-◌, ◌+◌, List, get_or, ap, ◌∙◌, arith}
 use Rattle.mp_system.specs.declared.system.Task.{Task}
 use Rattle.shared_systems.proofs.Freeing.{reaches-next}
 use Rattle.shared_systems.proofs.PeakSteps.{no_task, memory_small, output_small, extra_small, freed_fits, memory_after, running_is}

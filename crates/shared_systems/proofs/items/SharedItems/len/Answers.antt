@@ -1,4 +1,4 @@
-use Rattle.std.proofs.Common.{arith, ap, length}
+use Rattle.std.proofs.Common.{arith}
 use Rattle.shared_systems.proofs.StoredItems.{long}
 use Rattle.shared_systems.proofs.items.SharedItems.len.Goals as goal
 

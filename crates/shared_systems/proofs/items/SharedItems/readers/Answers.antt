@@ -1,4 +1,4 @@
-use Rattle.std.proofs.Common.{ap, rules, ◌≤◌, length, arith}
+use Rattle.std.proofs.Common.{rules, ◌≤◌, length, arith}
 use Rattle.shared_systems.proofs.StoredItems.{inside, readers_at}
 use Rattle.shared_systems.proofs.items.SharedItems.readers.Goals as goal
 

@@ -1,4 +1,4 @@
-use Rattle.std.proofs.Common.{◌≡◌, ◌+◌, ◌≤◌, ℕ, List, get_or, length, ap, ◌∙◌, arith}
+use Rattle.std.proofs.Common.{◌≡◌, ◌≤◌, ℕ, List, get_or, length, ap, ◌∙◌, arith}
 use Rattle.mp_system.specs.declared.system.Task.{Task}
 use Rattle.shared_systems.specs.Shared.{SharedItem, shared_size_where}
 use Rattle.shared_systems.specs.Places.{place_in, is_freed_at}
