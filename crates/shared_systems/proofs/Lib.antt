@@ -1,0 +1,16 @@
+pub mod ItemParts
+pub mod States
+pub mod WithoutCollectors
+pub mod Collectors
+pub mod Steps
+pub mod WovenOrders
+pub mod Systems
+pub mod OrderPlaces
+pub mod Reading
+pub mod StoredItems
+pub mod KeySums
+pub mod Freeing
+pub mod Faults
+pub mod GivenSystems
+pub mod UseArcs
+pub mod PeakSteps

@@ -1,0 +1,6 @@
+use Rattle.std.proofs.Common.{◌≡◌, ◌++◌, map, take}
+use Rattle.shared_systems.specs.Collected.{wait}
+use Rattle.shared_systems.proofs.collecting.push_waits_for.Given as goal
+
+abbrev pub invariant-loop-reader : goal.invariant-loop-reader
+invariant-loop-reader l = l.items.items ≡ l.initial.items.items ++ map (wait l.producer) (take l.reader-index l.readers)

@@ -1,0 +1,11 @@
+pub mod Shared
+pub mod SharedMemory
+pub mod SharedTraversal
+pub mod Collected
+pub mod Woven
+pub mod Places
+pub mod Bounds
+pub mod Given
+pub mod Judged
+pub mod Stored
+pub mod Samples
