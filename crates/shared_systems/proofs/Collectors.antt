@@ -1,5 +1,6 @@
 -- The collectors of shared items with their numbers, and those that are due between two states.
-use Rattle.std.proofs.Common.{◌≡◌, ℕ, ◌+◌, ◌<◌, ◌≤◌, Bool, true, false, cond, not, ◌&&◌, eqb, eq-eqb, List, [], ◌∷◌, ◌++◌, refl, ap, subst, ◌∙◌, arith, inl, inr}
+use Rattle.std.proofs.Common.{◌≡◌, ℕ, ◌+◌, ◌<◌, ◌≤◌, Bool, true, false, cond, not, ◌&&◌, eqb, eq-eqb}
+use Rattle.std.proofs.Common.{List, [], ◌∷◌, ◌++◌, refl, ap, subst, ◌∙◌, arith, inl, inr}
 use Rattle.std.specs.Prelude.{All, count_by}
 use Rattle.std.proofs.lemmas.List.Sums.{sum_by-cons, sum_by-append}
 use Rattle.std.proofs.lemmas.List.Elements.{All-head, All-tail, All-nil, All-cons, All-append}
@@ -59,11 +60,14 @@ next_is k x = elim (is_shared x) as (λ b. cond b (k + 1) k ≡ k + cond b 1 0) 
 pub next_shared : (k : ℕ) (x : SharedItem) → is_shared x ≡ true → next_from k x ≡ k + 1
 next_shared k x shared = rw shared refl
 
-pub each_map : (P Q : ℕ → SharedItem → Type 0) (R : SharedItem → Type 0) (low : ℕ) → ((k : ℕ) (x : SharedItem) → low ≤ k → is_shared x ≡ true → R x → P k x → Q k x)
+pub each_map : (P Q : ℕ → SharedItem → Type 0) (R : SharedItem → Type 0) (low : ℕ)
+    → ((k : ℕ) (x : SharedItem) → low ≤ k → is_shared x ≡ true → R x → P k x → Q k x)
     → (k : ℕ) (xs : List SharedItem) → low ≤ k → All R xs → Each P k xs → Each Q k xs
 each_map P Q R low f k [] le within each = tt
-each_map P Q R low f k (x ∷ xs) le within each =
-    (λ shared. f k x le shared (All-head R x xs within) (each.0 shared), each_map P Q R low f (next_from k x) xs (omega (arith, next_ge k x)) (All-tail R x xs within) each.1)
+each_map P Q R low f k (x ∷ xs) le within each = (
+  λ shared. f k x le shared (All-head R x xs within) (each.0 shared),
+  each_map P Q R low f (next_from k x) xs (omega (arith, next_ge k x)) (All-tail R x xs within) each.1,
+)
 
 pub each_make : (Q : ℕ → SharedItem → Type 0) (R : SharedItem → Type 0) → ((k : ℕ) (x : SharedItem) → is_shared x ≡ true → R x → Q k x)
     → (k : ℕ) (xs : List SharedItem) → All R xs → Each Q k xs
@@ -71,7 +75,8 @@ each_make Q R f k [] within = tt
 each_make Q R f k (x ∷ xs) within =
     (λ shared. f k x shared (All-head R x xs within), each_make Q R f (next_from k x) xs (All-tail R x xs within))
 
-pub each_both : (P Q : ℕ → SharedItem → Type 0) (k : ℕ) (xs : List SharedItem) → Each P k xs → Each Q k xs → Each (λ j x. P j x × Q j x) k xs
+pub each_both : (P Q : ℕ → SharedItem → Type 0) (k : ℕ) (xs : List SharedItem)
+    → Each P k xs → Each Q k xs → Each (λ j x. P j x × Q j x) k xs
 each_both P Q k [] p q = tt
 each_both P Q k (x ∷ xs) p q = (λ shared. (p.0 shared, q.0 shared), each_both P Q (next_from k x) xs p.1 q.1)
 
@@ -82,20 +87,25 @@ more_shared k x xs = omega (arith, next_is k x, sum_by-cons (λ y. cond (is_shar
 pub each_range : (k : ℕ) (xs : List SharedItem) → Each (λ j x. (k ≤ j) × (j < k + count_by is_shared xs)) k xs
 each_range k [] = tt
 each_range k (x ∷ xs) = (
-  λ shared. (let one : ◌≡◌ {A = ℕ} (cond (is_shared x) 1 0) 1 = rw shared refl in (omega arith, omega (arith, one, sum_by-cons (λ y. cond (is_shared y) 1 0) x xs))),
-  each_map (λ j y. (next_from k x ≤ j) × (j < next_from k x + count_by is_shared xs)) (λ j y. (k ≤ j) × (j < k + count_by is_shared (x ∷ xs))) (λ y. Unit {0}) 0
+  λ shared. (let one : ◌≡◌ {A = ℕ} (cond (is_shared x) 1 0) 1 = rw shared refl in
+      (omega arith, omega (arith, one, sum_by-cons (λ y. cond (is_shared y) 1 0) x xs))),
+  each_map (λ j y. (next_from k x ≤ j) × (j < next_from k x + count_by is_shared xs))
+      (λ j y. (k ≤ j) × (j < k + count_by is_shared (x ∷ xs))) (λ y. Unit {0}) 0
       (λ j y low shared unit within. (omega (arith, within.0, next_ge k x), omega (arith, within.1, more_shared k x xs)))
       (next_from k x) xs (omega arith) (λ i d lt. tt) (each_range (next_from k x) xs),
 )
 
-pub each_at : (P : ℕ → SharedItem → Type 0) (k : ℕ) (xs : List SharedItem) → Each P k xs → (v : ℕ) → k ≤ v → v < k + count_by is_shared xs → (x : SharedItem) × P v x
+pub each_at : (P : ℕ → SharedItem → Type 0) (k : ℕ) (xs : List SharedItem) → Each P k xs
+    → (v : ℕ) → k ≤ v → v < k + count_by is_shared xs → (x : SharedItem) × P v x
 each_at P k [] each v low high = absurd (omega arith)
 each_at P k (x ∷ xs) each v low high = elim (cases_Bool (is_shared x)) [
   | inl shared ↦ elim (cases_eq k v) [
     | inl same ↦ (x, subst (λ (j : ℕ). P j x) same (each.0 shared))
     | inr other ↦ each_at P (next_from k x) xs each.1 v (omega (arith, next_shared k x shared)) (omega (arith, more_shared k x xs))
   ]
-  | inr sole ↦ (let same : next_from k x ≡ k = rw sole refl in each_at P (next_from k x) xs each.1 v (omega arith) (omega (arith, more_shared k x xs)))
+  | inr sole ↦
+      (let same : next_from k x ≡ k = rw sole refl in
+      each_at P (next_from k x) xs each.1 v (omega arith) (omega (arith, more_shared k x xs)))
 ]
 
 -- ---- the collectors that are due
@@ -105,17 +115,20 @@ module _ (done later : ℕ → Bool) where
   due_here Q k true here = All-cons Q k [] (here refl) (All-nil Q)
   due_here Q k false here = All-nil Q
 
-  pub due_all : (Q : ℕ → Type 0) (k : ℕ) (xs : List SharedItem) → Each (λ j x. is_due done later x ≡ true → Q j) k xs → All Q (due_from done later k xs)
+  pub due_all : (Q : ℕ → Type 0) (k : ℕ) (xs : List SharedItem)
+      → Each (λ j x. is_due done later x ≡ true → Q j) k xs → All Q (due_from done later k xs)
   due_all Q k [] each = All-nil Q
   due_all Q k (x ∷ xs) each =
       All-append Q (cond (is_due done later x) (k ∷ []) []) (due_from done later (next_from k x) xs)
-      (due_here Q k (is_due done later x) (λ due. each.0 ((and_parts (is_shared x) (are_done later x.readers && not (are_done done x.readers)) due).0) due))
+      (due_here Q k (is_due done later x)
+      (λ due. each.0 ((and_parts (is_shared x) (are_done later x.readers && not (are_done done x.readers)) due).0) due))
       (due_all Q (next_from k x) xs each.1)
 
   pub due_range : (k : ℕ) (xs : List SharedItem) → All (λ d. (k ≤ d) × (d < k + count_by is_shared xs)) (due_from done later k xs)
   due_range k xs =
       due_all (λ d. (k ≤ d) × (d < k + count_by is_shared xs)) k xs
-      (each_map (λ j x. (k ≤ j) × (j < k + count_by is_shared xs)) (λ j x. is_due done later x ≡ true → (k ≤ j) × (j < k + count_by is_shared xs)) (λ y. Unit {0}) 0
+      (each_map (λ j x. (k ≤ j) × (j < k + count_by is_shared xs))
+      (λ j x. is_due done later x ≡ true → (k ≤ j) × (j < k + count_by is_shared xs)) (λ y. Unit {0}) 0
       (λ j x low shared unit within due. within) k xs (omega arith) (λ i d lt. tt) (each_range k xs))
 
   due_above : (v k : ℕ) (xs : List SharedItem) → v < k → count_of (due_from done later k xs) v ≡ 0
@@ -131,18 +144,21 @@ module _ (done later : ℕ → Bool) where
   none_here k v false other = refl
 
   -- each stands there once if it is due, and else not at all
-  pub due_counts : (k : ℕ) (xs : List SharedItem) → Each (λ j x. count_of (due_from done later k xs) j ≡ cond (are_done later x.readers && not (are_done done x.readers)) 1 0) k xs
+  pub due_counts : (k : ℕ) (xs : List SharedItem)
+      → Each (λ j x. count_of (due_from done later k xs) j ≡ cond (are_done later x.readers && not (are_done done x.readers)) 1 0) k xs
   due_counts k [] = tt
   due_counts k (x ∷ xs) =
       let here = cond (is_due done later x) (k ∷ []) [] in
       let rest = due_from done later (next_from k x) xs in (
         λ shared. (
             let due : is_due done later x ≡ (are_done later x.readers && not (are_done done x.readers)) = rw shared refl in
-            let one : count_of here k ≡ cond (are_done later x.readers && not (are_done done x.readers)) 1 0 = one_here k k (is_due done later x) refl ∙ ap (λ (b : Bool). cond b 1 0) due in
+            let one : count_of here k ≡ cond (are_done later x.readers && not (are_done done x.readers)) 1 0 =
+            one_here k k (is_due done later x) refl ∙ ap (λ (b : Bool). cond b 1 0) due in
             omega (arith, count_of-append here rest k, one, due_above k (next_from k x) xs (omega (arith, next_shared k x shared)))
             ),
         each_map (λ j y. count_of rest j ≡ cond (are_done later y.readers && not (are_done done y.readers)) 1 0)
-            (λ j y. count_of (here ++ rest) j ≡ cond (are_done later y.readers && not (are_done done y.readers)) 1 0) (λ y. Unit {0}) (next_from k x)
+            (λ j y. count_of (here ++ rest) j ≡ cond (are_done later y.readers && not (are_done done y.readers)) 1 0)
+            (λ y. Unit {0}) (next_from k x)
             (λ j y low shared unit is. (
             let none = none_here k j (is_due done later x) (λ due same. (
             let x_shared = (and_parts (is_shared x) (are_done later x.readers && not (are_done done x.readers)) due).0 in

@@ -1,5 +1,6 @@
 -- The memory along a traversal: what a task adds, and what goes after it because its last reader has run.
-use Rattle.std.proofs.Common.{◌≡◌, ℕ, zero, suc, ◌+◌, ◌<◌, ◌≤◌, max, true, cond, not, ◌&&◌, ◌||◌, eqb, eq-eqb, ltb, List, [], ◌∷◌, ◌++◌, length, take, drop, get_or, Option, Some, None, refl, sym, ap, ◌∙◌, arith, inl, inr}
+use Rattle.std.proofs.Common.{◌≡◌, ℕ, zero, suc, ◌+◌, ◌<◌, ◌≤◌, max, true, cond, not, ◌&&◌, ◌||◌, eqb, eq-eqb, ltb, List, []}
+use Rattle.std.proofs.Common.{◌∷◌, ◌++◌, length, take, drop, get_or, Option, Some, None, refl, sym, ap, ◌∙◌, arith, inl, inr}
 use Rattle.std.specs.Prelude.{All}
 use Rattle.std.specs.List.{list_all, list_any}
 use Rattle.std.proofs.lemmas.List.{take_more, drop_more, drop_all, take-append-drop}
@@ -47,24 +48,52 @@ only_place [] i v lt is once = absurd (omega arith)
 only_place (x ∷ xs) zero v lt is once = place_here x v xs is
 only_place (x ∷ xs) (suc i) v lt is once = elim (cases_eq x v) [
   | inl same ↦ absurd (omega (arith, once, count_of-cons x xs v, one_if x v same, counted_at xs i v (omega arith) is))
-  | inr other ↦ omega (arith, place_later x v xs other, only_place xs i v (omega arith) is (omega (arith, once, count_of-cons x xs v, none_if x v other)))
+  | inr other ↦ omega (
+    arith,
+    place_later x v xs other,
+    only_place xs i v (omega arith) is (omega (arith, once, count_of-cons x xs v, none_if x v other)),
+  )
 ]
 
 -- ---- sizes that come and go
 
 -- a is the place of the producer, l that of the last reader
 kept : (a l i size : ℕ) → a < l
-    → cond (ltb a (i + 1) && not (ltb l (i + 1))) size 0 + cond (eqb l i) size 0 ≡ cond (ltb a i && not (ltb l i)) size 0 + cond (eqb a i) size 0
+    → cond (ltb a (i + 1) && not (ltb l (i + 1))) size 0 + cond (eqb l i) size 0
+    ≡ cond (ltb a i && not (ltb l i)) size 0 + cond (eqb a i) size 0
 kept a l i size before = elim (cases_lt a i) [
   | inl early ↦ elim (cases_lt l i) [
-    | inl gone ↦ rw (lt-ltb a i early, lt-ltb a (i + 1) (omega arith), lt-ltb l i gone, lt-ltb l (i + 1) (omega arith), ne_eqb l i (λ e. omega arith), ne_eqb a i (λ e. omega arith)) refl
+    | inl gone ↦ rw (
+      lt-ltb a i early,
+      lt-ltb a (i + 1) (omega arith),
+      lt-ltb l i gone,
+      lt-ltb l (i + 1) (omega arith),
+      ne_eqb l i (λ e. omega arith),
+      ne_eqb a i (λ e. omega arith),
+    ) refl
     | inr there ↦ elim (cases_eq l i) [
-      | inl last ↦ rw (lt-ltb a i early, lt-ltb a (i + 1) (omega arith), le-ltb l i there, lt-ltb l (i + 1) (omega arith), eq-eqb l i last, ne_eqb a i (λ e. omega arith)) (omega arith)
-      | inr later ↦ rw (lt-ltb a i early, lt-ltb a (i + 1) (omega arith), le-ltb l i there, le-ltb l (i + 1) (omega arith), ne_eqb l i later, ne_eqb a i (λ e. omega arith)) refl
+      | inl last ↦ rw (
+        lt-ltb a i early,
+        lt-ltb a (i + 1) (omega arith),
+        le-ltb l i there,
+        lt-ltb l (i + 1) (omega arith),
+        eq-eqb l i last,
+        ne_eqb a i (λ e. omega arith),
+      ) (omega arith)
+      | inr later ↦ rw (
+        lt-ltb a i early,
+        lt-ltb a (i + 1) (omega arith),
+        le-ltb l i there,
+        le-ltb l (i + 1) (omega arith),
+        ne_eqb l i later,
+        ne_eqb a i (λ e. omega arith),
+      ) refl
     ]
   ]
   | inr late ↦ elim (cases_eq a i) [
-    | inl now ↦ rw (le-ltb a i late, lt-ltb a (i + 1) (omega arith), le-ltb l (i + 1) (omega arith), ne_eqb l i (λ e. omega arith), eq-eqb a i now) (omega arith)
+    | inl now ↦
+        rw (le-ltb a i late, lt-ltb a (i + 1) (omega arith), le-ltb l (i + 1) (omega arith), ne_eqb l i (λ e. omega arith), eq-eqb a i now)
+        (omega arith)
     | inr other ↦ rw (le-ltb a i late, le-ltb a (i + 1) (omega arith), ne_eqb l i (λ e. omega arith), ne_eqb a i other) refl
   ]
 ]
@@ -102,12 +131,14 @@ module _ (system : SharedTaskSystem) (order : List ℕ) (traversal : IsSharedTra
   abbrev InTime : SharedItem → ℕ → Type 0
   InTime x c = (not (is_read_by c x) || is_made (stands_in (take (place_in order c) order)) x) ≡ true
 
-  in_time : (c : ℕ) → HasTask system c → list_all (λ x. not (is_read_by c x) || is_made (stands_in (take (place_in order c) order)) x) system.items ≡ true
+  in_time : (c : ℕ) → HasTask system c
+      → list_all (λ x. not (is_read_by c x) || is_made (stands_in (take (place_in order c) order)) x) system.items ≡ true
   in_time c task =
       let at = stands_at c task in
       let split : order ≡ take (place_in order c) order ++ c ∷ drop (place_in order c + 1) order =
       sym (take-append-drop (place_in order c) order)
-      ∙ ap (λ (l : List ℕ). take (place_in order c) order ++ l) (drop_more order (place_in order c) 0 at.0 ∙ ap (λ (k : ℕ). k ∷ drop (place_in order c + 1) order) at.1) in
+      ∙ ap (λ (l : List ℕ). take (place_in order c) order ++ l)
+      (drop_more order (place_in order c) 0 at.0 ∙ ap (λ (k : ℕ). k ∷ drop (place_in order c + 1) order) at.1) in
       traversal.after_suppliers (take (place_in order c) order) (drop (place_in order c + 1) order) c split
 
   module _ (i : ℕ) (lt : i < length order) where
@@ -117,12 +148,14 @@ module _ (system : SharedTaskSystem) (order : List ℕ) (traversal : IsSharedTra
     -- the producer is the task at i exactly where its place is i
     same_place : (p : ℕ) → HasTask system p → eqb p (get_or order i 0) ≡ eqb (place_in order p) i
     same_place p task = elim (cases_eq p (get_or order i 0)) [
-      | inl same ↦ eq-eqb p (get_or order i 0) same ∙ sym (eq-eqb (place_in order p) i (only_place order i p lt (sym same) (traversal.once p task)))
+      | inl same ↦ eq-eqb p (get_or order i 0) same
+          ∙ sym (eq-eqb (place_in order p) i (only_place order i p lt (sym same) (traversal.once p task)))
       | inr other ↦ ne_eqb p (get_or order i 0) other
           ∙ sym (ne_eqb (place_in order p) i (λ e. other (sym ((stands_at p task).1) ∙ ap (λ (k : ℕ). get_or order k 0) e)))
     ]
 
-    item_parts : (size : ℕ) (from : Option ℕ) (readers : List ℕ) → IsSharedItemWithin (length system.tasks) (record { size = size; from = from; readers = readers })
+    item_parts : (size : ℕ) (from : Option ℕ) (readers : List ℕ)
+        → IsSharedItemWithin (length system.tasks) (record { size = size; from = from; readers = readers })
         → ((c : ℕ) → HasTask system c → InTime (record { size = size; from = from; readers = readers }) c)
         → shared_size_if (is_held (stands_in (take (i + 1) order))) (record { size = size; from = from; readers = readers })
         + shared_size_if (is_freed_at (place_in order) i) (record { size = size; from = from; readers = readers })
@@ -130,29 +163,42 @@ module _ (system : SharedTaskSystem) (order : List ℕ) (traversal : IsSharedTra
         + shared_size_if (is_made_by (get_or order i 0)) (record { size = size; from = from; readers = readers })
     item_parts size None [] within time = refl
     item_parts size None (c ∷ cs) within time =
-        rw (all_take order (i + 1) (omega arith) c cs, all_take order i (omega arith) c cs) (stocked (last_place (place_in order) (c ∷ cs)) i size)
+        rw (all_take order (i + 1) (omega arith) c cs, all_take order i (omega arith) c cs)
+        (stocked (last_place (place_in order) (c ∷ cs)) i size)
     item_parts size (Some p) [] within time =
-        rw (stands_take order (i + 1) p (omega arith), stands_take order i p (omega arith), same_place p (within.producer p refl)) (stays (place_in order p) i size)
+        rw (stands_take order (i + 1) p (omega arith), stands_take order i p (omega arith), same_place p (within.producer p refl))
+        (stays (place_in order p) i size)
     item_parts size (Some p) (c ∷ cs) within time =
         let reader = All-head (HasTask system) c cs within.readers in
-        let read : (not (eqb c c || list_any (λ d. eqb d c) cs) || stands_in (take (place_in order c) order) p) ≡ stands_in (take (place_in order c) order) p = rw (eq-eqb c c refl) refl in
-        let made : ltb (place_in order p) (place_in order c) ≡ true = sym (stands_take order (place_in order c) p (omega (arith, (stands_at c reader).0))) ∙ sym read ∙ time c reader in
+        let read : (not (eqb c c || list_any (λ d. eqb d c) cs) || stands_in (take (place_in order c) order) p)
+        ≡ stands_in (take (place_in order c) order) p = rw (eq-eqb c c refl) refl in
+        let made : ltb (place_in order p) (place_in order c) ≡ true =
+        sym (stands_take order (place_in order c) p (omega (arith, (stands_at c reader).0))) ∙ sym read ∙ time c reader in
         let before : place_in order p < place_in order c = elim (cases_lt (place_in order p) (place_in order c)) [
           | inl less ↦ less
           | inr more ↦ absurd (let no = sym made ∙ le-ltb (place_in order p) (place_in order c) more in cc)
         ] in
-        rw (all_take order (i + 1) (omega arith) c cs, all_take order i (omega arith) c cs, stands_take order (i + 1) p (omega arith), stands_take order i p (omega arith), same_place p (within.producer p refl))
+        rw (
+          all_take order (i + 1) (omega arith) c cs,
+          all_take order i (omega arith) c cs,
+          stands_take order (i + 1) p (omega arith),
+          stands_take order i p (omega arith),
+          same_place p (within.producer p refl),
+        )
         (kept (place_in order p) (last_place (place_in order) (c ∷ cs)) i size (omega (arith, before, last_after (place_in order) c cs)))
 
     parts : (xs : List SharedItem) → All (IsSharedItemWithin (length system.tasks)) xs
-        → ((c : ℕ) → HasTask system c → list_all (λ x. not (is_read_by c x) || is_made (stands_in (take (place_in order c) order)) x) xs ≡ true)
+        → ((c : ℕ) → HasTask system c
+        → list_all (λ x. not (is_read_by c x) || is_made (stands_in (take (place_in order c) order)) x) xs ≡ true)
         → shared_size_where (is_held (stands_in (take (i + 1) order))) xs + shared_size_where (is_freed_at (place_in order) i) xs
         ≡ shared_size_where (is_held (stands_in (take i order))) xs + shared_size_where (is_made_by (get_or order i 0)) xs
     parts [] within time = refl
     parts (x ∷ xs) within time =
-        let both = λ (c : ℕ) (task : HasTask system c). and_parts (not (is_read_by c x) || is_made (stands_in (take (place_in order c) order)) x)
+        let both =
+        λ (c : ℕ) (task : HasTask system c). and_parts (not (is_read_by c x) || is_made (stands_in (take (place_in order c) order)) x)
         (list_all (λ y. not (is_read_by c y) || is_made (stands_in (take (place_in order c) order)) y) xs) (time c task) in
-        let first = item_parts x.size x.from x.readers (All-head (IsSharedItemWithin (length system.tasks)) x xs within) (λ c task. (both c task).0) in
+        let first = item_parts x.size x.from x.readers
+        (All-head (IsSharedItemWithin (length system.tasks)) x xs within) (λ c task. (both c task).0) in
         let rest = parts xs (All-tail (IsSharedItemWithin (length system.tasks)) x xs within) (λ c task. (both c task).1) in
         omega (
           arith,
@@ -171,7 +217,8 @@ module _ (system : SharedTaskSystem) (order : List ℕ) (traversal : IsSharedTra
 
 -- ---- the peak
 
-pub peak-ge : (system : SharedTaskSystem) (before rest : List ℕ) → shared_memory system (stands_in before) ≤ shared_peak_from system before rest
+pub peak-ge : (system : SharedTaskSystem) (before rest : List ℕ)
+    → shared_memory system (stands_in before) ≤ shared_peak_from system before rest
 peak-ge system before [] = omega arith
 peak-ge system before (v ∷ rest) = omega arith
 
@@ -192,22 +239,30 @@ module _ (system : SharedTaskSystem) (order : List ℕ) where
   reaches-next i memory peak later running lt at later_is running_is =
       let v = get_or order i 0 in
       let split : shared_peak_from system (take i order) (drop i order)
-      ≡ max (shared_memory system (stands_in (take i order))) (max (shared_running system (stands_in (take i order)) v) (shared_peak_from system (take (i + 1) order) (drop (i + 1) order))) =
+      ≡ max (shared_memory system (stands_in (take i order)))
+      (max (shared_running system (stands_in (take i order)) v) (shared_peak_from system (take (i + 1) order) (drop (i + 1) order))) =
       ap (shared_peak_from system (take i order)) (drop_more order i 0 lt)
-      ∙ ap (λ (l : List ℕ). max (shared_memory system (stands_in (take i order))) (max (shared_running system (stands_in (take i order)) v) (shared_peak_from system l (drop (i + 1) order)))) (sym (take_more order i 0 lt)) in
+      ∙ ap (λ (l : List ℕ). max (shared_memory system (stands_in (take i order)))
+      (max (shared_running system (stands_in (take i order)) v) (shared_peak_from system l (drop (i + 1) order))))
+      (sym (take_more order i 0 lt)) in
       record {
         memory_is = later_is;
         low = omega arith;
-        peak_is = join (shared_memory system (stands_in (take i order))) (shared_running system (stands_in (take i order)) v) later peak (max (max peak running) later)
-            (shared_peak_from system (take i order) (drop i order)) (shared_peak_from system (take (i + 1) order) (drop (i + 1) order)) (shared_peak_of system order)
-            (omega (arith, at.memory_is, at.low)) (omega (arith, later_is, peak-ge system (take (i + 1) order) (drop (i + 1) order))) (omega (arith, running_is)) split at.peak_is;
+        peak_is = join (shared_memory system (stands_in (take i order)))
+            (shared_running system (stands_in (take i order)) v) later peak (max (max peak running) later)
+            (shared_peak_from system (take i order) (drop i order))
+            (shared_peak_from system (take (i + 1) order) (drop (i + 1) order)) (shared_peak_of system order)
+            (omega (arith, at.memory_is, at.low)) (omega (arith, later_is, peak-ge system (take (i + 1) order) (drop (i + 1) order)))
+            (omega (arith, running_is)) split at.peak_is;
       }
     where
-      join : (now running later peak most from rest whole : ℕ) → now ≤ peak → later ≤ rest → most ≡ max (max peak running) later → from ≡ max now (max running rest)
+      join : (now running later peak most from rest whole : ℕ) → now ≤ peak → later ≤ rest
+          → most ≡ max (max peak running) later → from ≡ max now (max running rest)
           → max peak from ≡ whole → max most rest ≡ whole
       join now running later peak most from rest whole low below most_is from_is whole_is = omega arith
 
   pub reaches-end : (i memory peak : ℕ) → length order ≤ i → Reaches system order i memory peak → peak ≡ shared_peak_of system order
   reaches-end i memory peak le at =
-      let none : shared_peak_from system (take i order) (drop i order) ≡ shared_memory system (stands_in (take i order)) = ap (shared_peak_from system (take i order)) (drop_all i order le) in
+      let none : shared_peak_from system (take i order) (drop i order) ≡ shared_memory system (stands_in (take i order)) =
+      ap (shared_peak_from system (take i order)) (drop_all i order le) in
       omega (arith, none, at.memory_is, at.low, at.peak_is)

@@ -1,5 +1,6 @@
 -- Tasks, items and readers that pass all tests are a shared system, but for orders and shares.
-use Rattle.std.proofs.Common.{◌≡◌, ℕ, zero, suc, ◌+◌, ◌<◌, ◌≤◌, List, [], ◌∷◌, length, map, take, drop, get_or, refl, sym, ap, subst, ◌∙◌, arith}
+use Rattle.std.proofs.Common.{◌≡◌, ℕ, zero, suc, ◌+◌, ◌<◌, ◌≤◌, List, [], ◌∷◌, length, map}
+use Rattle.std.proofs.Common.{take, drop, get_or, refl, sym, ap, subst, ◌∙◌, arith}
 use Rattle.std.specs.List.{All, sum_by}
 use Rattle.std.proofs.lemmas.List.{length-map}
 use Rattle.std.proofs.lemmas.List.Sums.{sum_by-cons}
@@ -23,7 +24,8 @@ use Rattle.shared_systems.specs.declared.judged.SharedItemTest.TheVariants as te
 use Rattle.shared_systems.specs.Shared.{SharedTaskSystem, SharedItem, HasOwnShare}
 use Rattle.shared_systems.specs.Bounds.{IsSharedItemWithin, IsSharedSystem, reader_count, shared_size, use_arcs}
 use Rattle.shared_systems.specs.Given.{items_given, count_given, shared_system_given}
-use Rattle.shared_systems.specs.Judged.{IsPlainShared, ArePlainShared, IsSharedFault, IsSharedRefusal, SharedItemPasses, SharedItemsPass, refusal_of, shared_total_given}
+use Rattle.shared_systems.specs.Judged.{IsPlainShared, ArePlainShared, IsSharedFault, IsSharedRefusal, SharedItemPasses}
+use Rattle.shared_systems.specs.Judged.{SharedItemsPass, refusal_of, shared_total_given}
 use Rattle.shared_systems.proofs.KeySums.{no_item}
 
 abbrev pub system_of : List Task → List SharedItem → SharedTaskSystem
@@ -53,7 +55,8 @@ uses-given (x ∷ xs) readers =
       uses-given xs (drop x.readers readers),
     )
 
-sizes-given : (xs : List GivenSharedItem) (readers : List ℕ) → sum_by shared_size (items_given xs readers) ≡ sum_by (λ (x : GivenSharedItem). x.size) xs
+sizes-given : (xs : List GivenSharedItem) (readers : List ℕ)
+    → sum_by shared_size (items_given xs readers) ≡ sum_by (λ (x : GivenSharedItem). x.size) xs
 sizes-given [] readers = refl
 sizes-given (x ∷ xs) readers =
     omega (
@@ -66,13 +69,14 @@ sizes-given (x ∷ xs) readers =
 -- ---- each task and each item
 
 pub tasks_within : (tasks : List GivenTask) → TasksPass tasks → All IsTaskWithin (map task_given tasks)
-tasks_within tasks pass = All-map IsTaskWithin task_given tasks (All-from_get_or (λ t. IsTaskWithin (task_given t)) tasks no_task (λ i inside. record {
-  extra = extra_fits tasks (pass task_tests.Size) i no_task inside;
-  time = (
-    at_place tasks no_task (λ t. 1 ≤ t.time) i no_task inside (pass task_tests.Time),
-    at_place tasks no_task (λ t. t.time ≤ most_time) i no_task inside (pass task_tests.LongTime),
-  );
-}))
+tasks_within tasks pass =
+    All-map IsTaskWithin task_given tasks (All-from_get_or (λ t. IsTaskWithin (task_given t)) tasks no_task (λ i inside. record {
+      extra = extra_fits tasks (pass task_tests.Size) i no_task inside;
+      time = (
+        at_place tasks no_task (λ t. 1 ≤ t.time) i no_task inside (pass task_tests.Time),
+        at_place tasks no_task (λ t. t.time ≤ most_time) i no_task inside (pass task_tests.LongTime),
+      );
+    }))
 
 module _ (n : ℕ) (items : List SharedItem) (pass : SharedItemsPass n items) where
   pub passes_at : (test : SharedItemTest) (i : ℕ) → i < length items → SharedItemPasses n test (get_or items i no_item)
@@ -96,7 +100,8 @@ module _ (tasks : List GivenTask) (items : List GivenSharedItem) (readers : List
     few_items = omega (arith, plain.few.1, length-given items readers);
     few_uses = omega (arith, plain.few.2, plain.counted, uses-given items readers);
     tasks = tasks_within tasks plain.tasks_pass;
-    items = subst (λ (n : ℕ). All (IsSharedItemWithin n) (items_given items readers)) (sym (length-map tasks task_given)) (items_within (length tasks) (items_given items readers) plain.items_pass);
+    items = subst (λ (n : ℕ). All (IsSharedItemWithin n) (items_given items readers))
+        (sym (length-map tasks task_given)) (items_within (length tasks) (items_given items readers) plain.items_pass);
     total = omega (arith, total, sum_by-map extra_size task_given tasks, sizes-given items readers);
   }
 
@@ -105,7 +110,8 @@ module _ (tasks : List GivenTask) (items : List GivenSharedItem) (readers : List
   plain_from all made all_are made_is total = rw (all_are, made_is) (plain_given total)
 
   -- the sums that are held against the limit
-  pub total_at : (all : List Task) (made : List SharedItem) (extras sizes : ℕ) → all ≡ map task_given tasks → made ≡ items_given items readers
+  pub total_at : (all : List Task) (made : List SharedItem) (extras sizes : ℕ)
+      → all ≡ map task_given tasks → made ≡ items_given items readers
       → extras ≡ sum_by extra_size all → sizes ≡ sum_by shared_size made → extras + sizes ≡ shared_total_given tasks items
   total_at all made extras sizes all_are made_is extras_are sizes_are =
       let extra = ap (λ (l : List Task). sum_by extra_size l) all_are in
@@ -113,13 +119,16 @@ module _ (tasks : List GivenTask) (items : List GivenSharedItem) (readers : List
       omega (arith, extras_are, sizes_are, extra, size, sum_by-map extra_size task_given tasks, sizes-given items readers)
 
   -- a fault of the system is what the arrays are refused with
-  pub refused_from : (all : List Task) (made : List SharedItem) (fault : SharedFault) → all ≡ map task_given tasks → made ≡ items_given items readers
-      → shared_total_given tasks items ≤ most_total → IsSharedFault (system_of all made) fault → IsSharedRefusal tasks items readers (refusal_of fault)
+  pub refused_from : (all : List Task) (made : List SharedItem) (fault : SharedFault)
+      → all ≡ map task_given tasks → made ≡ items_given items readers
+      → shared_total_given tasks items ≤ most_total → IsSharedFault (system_of all made) fault
+      → IsSharedRefusal tasks items readers (refusal_of fault)
   refused_from all made fault all_are made_is total is =
       let same = ap (λ (l : List Task). system_of l made) all_are ∙ ap (system_of (map task_given tasks)) made_is in
       refused fault (subst (λ (system : SharedTaskSystem). IsSharedFault system fault) same is)
     where
-      refused : (fault : SharedFault) → IsSharedFault (shared_system_given tasks items readers) fault → IsSharedRefusal tasks items readers (refusal_of fault)
+      refused : (fault : SharedFault) → IsSharedFault (shared_system_given tasks items readers) fault
+          → IsSharedRefusal tasks items readers (refusal_of fault)
       refused (faults.Cycle v) is = (plain, total, is)
       refused (faults.Share v) is = (plain, total, is)
       refused faults.NoMemory is = tt

@@ -1,5 +1,6 @@
 -- What the items of one item add to sums of sizes and to tests of all items.
-use Rattle.std.proofs.Common.{◌≡◌, ℕ, ◌+◌, ◌≤◌, Bool, true, false, cond, not, ◌&&◌, ◌||◌, eqb, eq-eqb, List, [], ◌∷◌, ◌++◌, map, Option, Some, None, refl, sym, ap, ◌∙◌, arith}
+use Rattle.std.proofs.Common.{◌≡◌, ℕ, ◌+◌, ◌≤◌, Bool, true, false, cond, not, ◌&&◌, ◌||◌, eqb, eq-eqb}
+use Rattle.std.proofs.Common.{List, [], ◌∷◌, ◌++◌, map, Option, Some, None, refl, sym, ap, ◌∙◌, arith}
 use Rattle.std.specs.List.{list_all, list_any}
 use Rattle.std.proofs.lemmas.List.Folds.{list_all-append}
 use Rattle.std.proofs.lemmas.List.Sums.{sum_by-cons, sum_by-append}
@@ -29,7 +30,8 @@ spread true false true = refl
 spread true false false = refl
 spread false b d = refl
 
-below : (made used consumed : Bool) (size : ℕ) → (consumed ≡ true → used ≡ true) → cond (made && not used) size 0 ≤ cond (made && not consumed) size 0
+below : (made used consumed : Bool) (size : ℕ) → (consumed ≡ true → used ≡ true)
+    → cond (made && not used) size 0 ≤ cond (made && not consumed) size 0
 below false used consumed size h = omega arith
 below true true consumed size h = omega arith
 below true false true size h = absurd (let e = h refl in cc)
@@ -47,16 +49,27 @@ no_waits_for : (test : Item → Bool) (from : Option ℕ) (to : List ℕ) → si
 no_waits_for test None to = refl
 no_waits_for test (Some u) to = no_sizes test (wait u) (λ c. refl) to
 
-no_waits : (test : Item → Bool) (k : ℕ) (from : Option ℕ) (to : List ℕ) (several : Bool) → size_where test (cond several (waits_for from to ++ waits_of k to) []) ≡ 0
+no_waits : (test : Item → Bool) (k : ℕ) (from : Option ℕ) (to : List ℕ) (several : Bool)
+    → size_where test (cond several (waits_for from to ++ waits_of k to) []) ≡ 0
 no_waits test k from to true =
-    omega (arith, sum_by-append (size_if test) (waits_for from to) (waits_of k to), no_waits_for test from to, no_sizes test (λ c. wait c k) (λ c. refl) to)
+    omega (
+      arith,
+      sum_by-append (size_if test) (waits_for from to) (waits_of k to),
+      no_waits_for test from to,
+      no_sizes test (λ c. wait c k) (λ c. refl) to,
+    )
 no_waits test k from to false = refl
 
 -- of the items of an item only its own counts
 pub item_counts : (test : Item → Bool) (k : ℕ) (x : SharedItem) (items : List Item)
     → size_where test ((kept_item k x ∷ wait_items k x) ++ items) ≡ size_if test (kept_item k x) + size_where test items
 item_counts test k x items =
-    omega (arith, sum_by-cons (size_if test) (kept_item k x) (wait_items k x ++ items), sum_by-append (size_if test) (wait_items k x) items, no_waits test k x.from x.readers (is_shared x))
+    omega (
+      arith,
+      sum_by-cons (size_if test) (kept_item k x) (wait_items k x ++ items),
+      sum_by-append (size_if test) (wait_items k x) items,
+      no_waits test k x.from x.readers (is_shared x),
+    )
 
 -- who takes up the item alone reads the item, if it is not the collector
 taker_only : (k v : ℕ) (to : List ℕ) → (k ≡ v → ⊥) → is_named (taker k to) v ≡ is_named (only to) v
@@ -67,7 +80,8 @@ taker_only k v (c ∷ d ∷ cs) other = ne_eqb k v other
 pub item_taken : (k v : ℕ) (x : SharedItem) → (k ≡ v → ⊥) → size_if (is_input v) (kept_item k x) ≡ shared_size_if (is_read_by_alone v) x
 item_taken k v x other = ap (λ (b : Bool). cond b x.size 0) (taker_only k v x.readers other)
 
-taken_same : (done : ℕ → Bool) (k : ℕ) (to : List ℕ) → (are_several to ≡ true → done k ≡ are_done done to) → is_done_or false done (taker k to) ≡ are_done done to
+taken_same : (done : ℕ → Bool) (k : ℕ) (to : List ℕ) → (are_several to ≡ true → done k ≡ are_done done to)
+    → is_done_or false done (taker k to) ≡ are_done done to
 taken_same done k [] h = refl
 taken_same done k (c ∷ []) h = sym (and_true (done c))
 taken_same done k (c ∷ d ∷ cs) h = h refl
@@ -77,7 +91,8 @@ pub item_same : (done : ℕ → Bool) (k : ℕ) (x : SharedItem) → (is_shared 
     → shared_size_if (is_held done) x ≡ size_if (is_present done) (kept_item k x)
 item_same done k x h = ap (λ (b : Bool). cond (is_made done x && not b) x.size 0) (sym (taken_same done k x.readers h))
 
-used_up : (done : ℕ → Bool) (k : ℕ) (to : List ℕ) → (are_several to ≡ true → done k ≡ true → list_all done to ≡ true) → is_done_or false done (taker k to) ≡ true → are_done done to ≡ true
+used_up : (done : ℕ → Bool) (k : ℕ) (to : List ℕ) → (are_several to ≡ true → done k ≡ true → list_all done to ≡ true)
+    → is_done_or false done (taker k to) ≡ true → are_done done to ≡ true
 used_up done k [] h e = absurd cc
 used_up done k (c ∷ []) h e = rw e refl
 used_up done k (c ∷ d ∷ cs) h e = h refl e
@@ -85,7 +100,8 @@ used_up done k (c ∷ d ∷ cs) h e = h refl e
 -- an item whose collector is done only after all readers takes at most what its item takes
 pub item_below : (done : ℕ → Bool) (k : ℕ) (x : SharedItem) → (is_shared x ≡ true → done k ≡ true → list_all done x.readers ≡ true)
     → shared_size_if (is_held done) x ≤ size_if (is_present done) (kept_item k x)
-item_below done k x h = below (is_made done x) (are_done done x.readers) (is_consumed done (kept_item k x)) x.size (used_up done k x.readers h)
+item_below done k x h =
+    below (is_made done x) (are_done done x.readers) (is_consumed done (kept_item k x)) x.size (used_up done k x.readers h)
 
 -- ---- who is ready
 
@@ -98,17 +114,20 @@ waits_for_ready : (done : ℕ → Bool) (v : ℕ) (from : Option ℕ) (to : List
 waits_for_ready done v None to = sym (or_true (not (list_any (λ c. eqb c v) to)))
 waits_for_ready done v (Some u) [] = refl
 waits_for_ready done v (Some u) (c ∷ to) =
-    ap (λ (b : Bool). (not (eqb c v) || done u) && b) (waits_for_ready done v (Some u) to) ∙ spread (eqb c v) (list_any (λ d. eqb d v) to) (done u)
+    ap (λ (b : Bool). (not (eqb c v) || done u) && b) (waits_for_ready done v (Some u) to)
+    ∙ spread (eqb c v) (list_any (λ d. eqb d v) to) (done u)
 
 ready_parts : (done : ℕ → Bool) (k v : ℕ) (size : ℕ) (from : Option ℕ) (to : List ℕ) → (are_several to ≡ true → k ≡ v → ⊥)
-    → list_all (is_supplied done v) (record { size = size; from = from; to = taker k to } ∷ cond (are_several to) (waits_for from to ++ waits_of k to) [])
+    → list_all (is_supplied done v)
+    (record { size = size; from = from; to = taker k to } ∷ cond (are_several to) (waits_for from to ++ waits_of k to) [])
     ≡ (not (list_any (λ c. eqb c v) to) || is_done_or true done from)
 ready_parts done k v size from [] other = refl
 ready_parts done k v size from (c ∷ []) other = rw (or_false (eqb c v)) (and_true (not (eqb c v) || is_done_or true done from))
 ready_parts done k v size from (c ∷ d ∷ cs) other =
     let to = c ∷ d ∷ cs in
     let first : (not (eqb k v) || is_done_or true done from) ≡ true = rw (ne_eqb k v (other refl)) refl in
-    let rest : list_all (is_supplied done v) (waits_for from to ++ waits_of k to) ≡ (not (list_any (λ e. eqb e v) to) || is_done_or true done from) =
+    let rest : list_all (is_supplied done v) (waits_for from to ++ waits_of k to)
+    ≡ (not (list_any (λ e. eqb e v) to) || is_done_or true done from) =
     list_all-append (is_supplied done v) (waits_for from to) (waits_of k to)
     ∙ ap (λ (b : Bool). list_all (is_supplied done v) (waits_for from to) && b) (waits_of_others done k v to (other refl))
     ∙ and_true (list_all (is_supplied done v) (waits_for from to))
@@ -128,13 +147,18 @@ waits_of_done done k (c ∷ to) e =
     let here : done c ≡ true = rw (eq-eqb k k refl) at parts.0 in
     rw here (waits_of_done done k to parts.1)
 
-collects_parts : (done : ℕ → Bool) (k : ℕ) (from : Option ℕ) (to : List ℕ) (several : Bool) → several ≡ true → list_all (is_supplied done k) (cond several (waits_for from to ++ waits_of k to) []) ≡ true → list_all done to ≡ true
-collects_parts done k from to true e ready = waits_of_done done k to (and_parts (list_all (is_supplied done k) (waits_for from to)) (list_all (is_supplied done k) (waits_of k to)) (sym (list_all-append (is_supplied done k) (waits_for from to) (waits_of k to)) ∙ ready)).1
+collects_parts : (done : ℕ → Bool) (k : ℕ) (from : Option ℕ) (to : List ℕ) (several : Bool) → several ≡ true
+    → list_all (is_supplied done k) (cond several (waits_for from to ++ waits_of k to) []) ≡ true → list_all done to ≡ true
+collects_parts done k from to true e ready = waits_of_done done k to
+    (and_parts (list_all (is_supplied done k) (waits_for from to)) (list_all (is_supplied done k) (waits_of k to))
+    (sym (list_all-append (is_supplied done k) (waits_for from to) (waits_of k to)) ∙ ready)).1
 collects_parts done k from to false e ready = absurd cc
 
-pub item_collects : (done : ℕ → Bool) (k : ℕ) (x : SharedItem) → is_shared x ≡ true → list_all (is_supplied done k) (kept_item k x ∷ wait_items k x) ≡ true → list_all done x.readers ≡ true
+pub item_collects : (done : ℕ → Bool) (k : ℕ) (x : SharedItem) → is_shared x ≡ true
+    → list_all (is_supplied done k) (kept_item k x ∷ wait_items k x) ≡ true → list_all done x.readers ≡ true
 item_collects done k x shared ready =
-    collects_parts done k x.from x.readers (is_shared x) shared (and_parts (is_supplied done k (kept_item k x)) (list_all (is_supplied done k) (wait_items k x)) ready).1
+    collects_parts done k x.from x.readers (is_shared x) shared
+    (and_parts (is_supplied done k (kept_item k x)) (list_all (is_supplied done k) (wait_items k x)) ready).1
 
 -- a collector is ready where its item is made and all readers are done
 waits_of_ready : (done : ℕ → Bool) (k : ℕ) (to : List ℕ) → list_all done to ≡ true → list_all (is_supplied done k) (waits_of k to) ≡ true
@@ -143,13 +167,17 @@ waits_of_ready done k (c ∷ to) e =
     let parts = and_parts (done c) (list_all done to) e in
     rw (parts.0, or_true (not (eqb k k))) (waits_of_ready done k to parts.1)
 
-collected_parts : (done : ℕ → Bool) (k : ℕ) (from : Option ℕ) (to : List ℕ) (several : Bool) → is_done_or true done from ≡ true → list_all done to ≡ true
+collected_parts : (done : ℕ → Bool) (k : ℕ) (from : Option ℕ) (to : List ℕ) (several : Bool)
+    → is_done_or true done from ≡ true → list_all done to ≡ true
     → list_all (is_supplied done k) (cond several (waits_for from to ++ waits_of k to) []) ≡ true
 collected_parts done k from to false made e = refl
 collected_parts done k from to true made e =
     let first : list_all (is_supplied done k) (waits_for from to) ≡ true =
-    waits_for_ready done k from to ∙ ap (λ (b : Bool). not (list_any (λ c. eqb c k) to) || b) made ∙ or_true (not (list_any (λ c. eqb c k) to)) in
-    list_all-append (is_supplied done k) (waits_for from to) (waits_of k to) ∙ and_from (list_all (is_supplied done k) (waits_for from to)) (list_all (is_supplied done k) (waits_of k to)) first (waits_of_ready done k to e)
+    waits_for_ready done k from to ∙ ap (λ (b : Bool). not (list_any (λ c. eqb c k) to) || b) made
+    ∙ or_true (not (list_any (λ c. eqb c k) to)) in
+    list_all-append (is_supplied done k) (waits_for from to) (waits_of k to)
+    ∙ and_from (list_all (is_supplied done k) (waits_for from to))
+    (list_all (is_supplied done k) (waits_of k to)) first (waits_of_ready done k to e)
 
 pub item_collected : (done : ℕ → Bool) (k : ℕ) (x : SharedItem) → is_made done x ≡ true → list_all done x.readers ≡ true
     → list_all (is_supplied done k) (kept_item k x ∷ wait_items k x) ≡ true

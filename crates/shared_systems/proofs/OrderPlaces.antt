@@ -1,5 +1,6 @@
 -- Places of tasks in an order, and the collectors that are due after each, as rows by the place of the last reader.
-use Rattle.std.proofs.Common.{◌≡◌, ℕ, zero, suc, ◌+◌, ◌<◌, ◌≤◌, max, Bool, true, false, cond, not, ◌&&◌, eqb, eq-eqb, ltb, List, [], ◌∷◌, ◌++◌, map, length, get_or, take, drop, set, append_assoc, refl, sym, ap, ◌∙◌, arith, inl, inr}
+use Rattle.std.proofs.Common.{◌≡◌, ℕ, zero, suc, ◌+◌, ◌<◌, ◌≤◌, max, Bool, true, false, cond, not, ◌&&◌, eqb, eq-eqb, ltb, List, []}
+use Rattle.std.proofs.Common.{◌∷◌, ◌++◌, map, length, get_or, take, drop, set, append_assoc, refl, sym, ap, ◌∙◌, arith, inl, inr}
 use Rattle.std.specs.Prelude.{All, count_by}
 use Rattle.std.specs.List.{filter, list_all}
 use Rattle.std.proofs.lemmas.List.{append-nil, length-map, map-append, take_more, drop_more, get_or-set_same, get_or-set_other}
@@ -28,7 +29,8 @@ place_here x v rest e = rw (eq-eqb x v e) refl
 pub place_later : (x v : ℕ) (rest : List ℕ) → (x ≡ v → ⊥) → place_in (x ∷ rest) v ≡ 1 + place_in rest v
 place_later x v rest e = rw (ne_eqb x v e) refl
 
-module _ (places order : List ℕ) (last i x : ℕ) (are : ArePlaces places order last (i + 1)) (lt : i < length order) (x_is : x ≡ get_or order i 0) where
+module _ (places order : List ℕ) (last i x : ℕ) (are : ArePlaces places order last (i + 1))
+    (lt : i < length order) (x_is : x ≡ get_or order i 0) where
   rest_is : drop i order ≡ x ∷ drop (i + 1) order
   rest_is = drop_more order i 0 lt ∙ ap (λ (w : ℕ). w ∷ drop (i + 1) order) (sym x_is)
 
@@ -64,14 +66,16 @@ pub last_place-push : (place : ℕ → ℕ) (to : List ℕ) (c : ℕ) → last_p
 last_place-push place [] c = omega arith
 last_place-push place (d ∷ to) c = omega (arith, last_place-push place to c)
 
-pub last_place_more : (place : ℕ → ℕ) (to : List ℕ) (i : ℕ) → i < length to → last_place place (take (i + 1) to) ≡ max (last_place place (take i to)) (place (get_or to i 0))
+pub last_place_more : (place : ℕ → ℕ) (to : List ℕ) (i : ℕ) → i < length to
+    → last_place place (take (i + 1) to) ≡ max (last_place place (take i to)) (place (get_or to i 0))
 last_place_more place to i lt = ap (last_place place) (take_more to i 0 lt) ∙ last_place-push place (take i to) (get_or to i 0)
 
 pub last_place-le : (order to : List ℕ) → last_place (place_in order) to ≤ length order
 last_place-le order [] = omega arith
 last_place-le order (c ∷ to) = omega (arith, place-le order c, last_place-le order to)
 
-pub last_place_same : (place other : ℕ → ℕ) (P : ℕ → Type 0) → ((c : ℕ) → P c → place c ≡ other c) → (to : List ℕ) → All P to → last_place place to ≡ last_place other to
+pub last_place_same : (place other : ℕ → ℕ) (P : ℕ → Type 0) → ((c : ℕ) → P c → place c ≡ other c)
+    → (to : List ℕ) → All P to → last_place place to ≡ last_place other to
 last_place_same place other P same [] within = refl
 last_place_same place other P same (c ∷ to) within =
     omega (arith, same c (All-head P c to within), last_place_same place other P same to (All-tail P c to within))
@@ -87,14 +91,17 @@ last_places_more place xs i b lt b_is =
     ∙ ap (λ (l : List ℕ). last_places place (take i xs) ++ l)
     (elim b as (λ e. map f (cond e (x ∷ []) []) ≡ cond e (last_place place x.readers ∷ []) []) [ true ↦ refl | false ↦ refl ])
 
-pub last_places_all : (P : ℕ → Type 0) (place : ℕ → ℕ) → ((to : List ℕ) → P (last_place place to)) → (xs : List SharedItem) → All P (last_places place xs)
+pub last_places_all : (P : ℕ → Type 0) (place : ℕ → ℕ) → ((to : List ℕ) → P (last_place place to))
+    → (xs : List SharedItem) → All P (last_places place xs)
 last_places_all P place each [] = All-nil P
 last_places_all P place each (x ∷ xs) = elim (cases_Bool (is_shared x)) [
-  | inl shared ↦ rw shared (All-cons P (last_place place x.readers) (last_places place xs) (each x.readers) (last_places_all P place each xs))
+  | inl shared ↦
+      rw shared (All-cons P (last_place place x.readers) (last_places place xs) (each x.readers) (last_places_all P place each xs))
   | inr sole ↦ rw sole (last_places_all P place each xs)
 ]
 
-pub last_places_same : (place other : ℕ → ℕ) (P : ℕ → Type 0) → ((c : ℕ) → P c → place c ≡ other c) → (xs : List SharedItem) → All (λ x. All P x.readers) xs
+pub last_places_same : (place other : ℕ → ℕ) (P : ℕ → Type 0)
+    → ((c : ℕ) → P c → place c ≡ other c) → (xs : List SharedItem) → All (λ x. All P x.readers) xs
     → last_places place xs ≡ last_places other xs
 last_places_same place other P same [] within = refl
 last_places_same place other P same (x ∷ xs) within =
@@ -173,28 +180,36 @@ due_numbers order i k (x ∷ xs) lt = elim (cases_Bool (is_shared x)) [
       ap (λ (b : Bool). b && not (are_done (stands_in (take i order)) x.readers)) (done_take order (i + 1) (omega arith) x.readers shared)
       ∙ ap (λ (b : Bool). ltb l (i + 1) && not b) (done_take order i (omega arith) x.readers shared)
       ∙ between l i in
-      rw (shared, due) (ap (λ (ys : List ℕ). cond (eqb l i) (k ∷ []) [] ++ ys) (due_numbers order i (k + 1) xs lt) ∙ sym (numbers_cons l (last_places (place_in order) xs) k i))
+      rw (shared, due)
+      (ap (λ (ys : List ℕ). cond (eqb l i) (k ∷ []) [] ++ ys) (due_numbers order i (k + 1) xs lt)
+      ∙ sym (numbers_cons l (last_places (place_in order) xs) k i))
       )
   | inr sole ↦ rw sole (due_numbers order i k xs lt)
 ]
 
 pub due_row : (system : SharedTaskSystem) (order : List ℕ) (i : ℕ) → i < length order
-    → due_after system (take i order) (get_or order i 0) ≡ numbers_with (last_places (place_in order) system.items) (length system.tasks + 1) i
+    → due_after system (take i order) (get_or order i 0)
+    ≡ numbers_with (last_places (place_in order) system.items) (length system.tasks + 1) i
 due_row system order i lt =
-    ap (λ (l : List ℕ). due_from (stands_in (take i order)) (stands_in l) (length system.tasks + 1) system.items) (sym (take_more order i 0 lt))
+    ap (λ (l : List ℕ). due_from (stands_in (take i order)) (stands_in l) (length system.tasks + 1) system.items)
+    (sym (take_more order i 0 lt))
     ∙ due_numbers order i (length system.tasks + 1) system.items lt
 
 -- ---- the woven order, one task more
 
-woven_from-append : (system : SharedTaskSystem) (before xs ys : List ℕ) → woven_from system before (xs ++ ys) ≡ woven_from system before xs ++ woven_from system (before ++ xs) ys
+woven_from-append : (system : SharedTaskSystem) (before xs ys : List ℕ)
+    → woven_from system before (xs ++ ys) ≡ woven_from system before xs ++ woven_from system (before ++ xs) ys
 woven_from-append system before [] ys = ap (λ (l : List ℕ). woven_from system l ys) (sym (append-nil before))
 woven_from-append system before (v ∷ xs) ys =
     let own = v ∷ due_after system before v in
-    ap (λ (l : List ℕ). own ++ l) (woven_from-append system (before ++ v ∷ []) xs ys ∙ ap (λ (l : List ℕ). woven_from system (before ++ v ∷ []) xs ++ woven_from system l ys) (append_assoc before (v ∷ []) xs))
+    ap (λ (l : List ℕ). own ++ l)
+    (woven_from-append system (before ++ v ∷ []) xs ys
+    ∙ ap (λ (l : List ℕ). woven_from system (before ++ v ∷ []) xs ++ woven_from system l ys) (append_assoc before (v ∷ []) xs))
     ∙ sym (append_assoc own (woven_from system (before ++ v ∷ []) xs) (woven_from system (before ++ v ∷ xs) ys))
 
 pub woven_more : (system : SharedTaskSystem) (order : List ℕ) (i : ℕ) → i < length order
-    → woven system (take (i + 1) order) ≡ woven system (take i order) ++ (get_or order i 0 ∷ due_after system (take i order) (get_or order i 0))
+    → woven system (take (i + 1) order)
+    ≡ woven system (take i order) ++ (get_or order i 0 ∷ due_after system (take i order) (get_or order i 0))
 woven_more system order i lt =
     let v = get_or order i 0 in
     ap (woven system) (take_more order i 0 lt)

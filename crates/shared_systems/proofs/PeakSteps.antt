@@ -1,5 +1,6 @@
 -- What the code of the peak needs of one task of a traversal: its sums fit, and nothing goes below 0.
-use Rattle.std.proofs.Common.{◌≡◌, ℕ, ◌+◌, ◌-◌, ◌<◌, ◌≤◌, cond, List, [], ◌∷◌, length, take, get_or, Option, Some, refl, ap, arith, inl, inr}
+use Rattle.std.proofs.Common.{◌≡◌, ℕ, ◌+◌, ◌-◌, ◌<◌, ◌≤◌, cond, List, [], ◌∷◌, length}
+use Rattle.std.proofs.Common.{take, get_or, Option, Some, refl, ap, arith, inl, inr}
 use Rattle.std.specs.List.{All}
 use Rattle.std.proofs.lemmas.List.{get_or_past}
 use Rattle.std.proofs.lemmas.List.Sums.{sum_by-cons, get_or-le-sum_by}
@@ -9,7 +10,8 @@ use Rattle.limits.specs.Limits.{most_total}
 use Rattle.mp_system.specs.declared.system.Task.{Task}
 use Rattle.mp_system.specs.System.{extra_size, is_named}
 use Rattle.mp_system.specs.Memory.{stands_in}
-use Rattle.shared_systems.specs.Shared.{SharedTaskSystem, SharedItem, HasTask, shared_task_at, shared_size_if, shared_size_where, is_made_by}
+use Rattle.shared_systems.specs.Shared.{SharedTaskSystem, SharedItem, HasTask, shared_task_at}
+use Rattle.shared_systems.specs.Shared.{shared_size_if, shared_size_where, is_made_by}
 use Rattle.shared_systems.specs.SharedMemory.{is_held, shared_memory, shared_running}
 use Rattle.shared_systems.specs.SharedTraversal.{IsSharedTraversal}
 use Rattle.shared_systems.specs.Bounds.{IsSharedItemWithin, IsSharedSystem}
@@ -21,9 +23,11 @@ use Rattle.shared_systems.proofs.Freeing.{Reaches, memory-next}
 abbrev pub no_task : Task
 no_task = record { extra = 0; share = 0; time = 0 }
 
-module _ (system : SharedTaskSystem) (is : IsSharedSystem system) (order : List ℕ) (traversal : IsSharedTraversal system order) (i : ℕ) (lt : i < length order)
+module _ (system : SharedTaskSystem) (is : IsSharedSystem system) (order : List ℕ)
+    (traversal : IsSharedTraversal system order) (i : ℕ) (lt : i < length order)
     (outputs freed : List ℕ) (outs : (v : ℕ) → get_or outputs v 0 ≡ shared_size_where (is_made_by v) system.items)
-    (frees : (j : ℕ) → get_or freed j 0 ≡ shared_size_where (is_freed_at (place_in order) j) system.items) (memory peak : ℕ) (at : Reaches system order i memory peak) where
+    (frees : (j : ℕ) → get_or freed j 0 ≡ shared_size_where (is_freed_at (place_in order) j) system.items)
+    (memory peak : ℕ) (at : Reaches system order i memory peak) where
   pub task_here : HasTask system (get_or order i 0)
   task_here = All-get_or (HasTask system) order i 0 lt traversal.tasks
 
@@ -34,9 +38,14 @@ module _ (system : SharedTaskSystem) (is : IsSharedSystem system) (order : List 
   output_small = omega (arith, outs (get_or order i 0), where-le (is_made_by (get_or order i 0)) system.items, is.total)
 
   pub extra_small : (shared_task_at system (get_or order i 0)).extra ≤ most_total
-  extra_small = omega (arith, get_or-le-sum_by extra_size system.tasks (get_or order i 0 - 1) no_task (omega (arith, task_here.0, task_here.1)), is.total)
+  extra_small = omega (
+    arith,
+    get_or-le-sum_by extra_size system.tasks (get_or order i 0 - 1) no_task (omega (arith, task_here.0, task_here.1)),
+    is.total,
+  )
 
-  pub share_fits : (shared_task_at system (get_or order i 0)).share ≤ (shared_task_at system (get_or order i 0)).extra + get_or outputs (get_or order i 0) 0
+  pub share_fits : (shared_task_at system (get_or order i 0)).share
+      ≤ (shared_task_at system (get_or order i 0)).extra + get_or outputs (get_or order i 0) 0
   share_fits = omega (arith, (is.shares (get_or order i 0) task_here).1, outs (get_or order i 0))
 
   pub freed_fits : get_or freed i 0 ≤ memory + get_or outputs (get_or order i 0) 0
@@ -45,22 +54,26 @@ module _ (system : SharedTaskSystem) (is : IsSharedSystem system) (order : List 
   pub memory_after : memory + get_or outputs (get_or order i 0) 0 - get_or freed i 0 ≡ shared_memory system (stands_in (take (i + 1) order))
   memory_after = omega (arith, memory-next system order traversal i lt is.items, at.memory_is, frees i, outs (get_or order i 0))
 
-  pub running_is : memory + ((shared_task_at system (get_or order i 0)).extra + get_or outputs (get_or order i 0) 0 - (shared_task_at system (get_or order i 0)).share)
+  pub running_is : memory + ((shared_task_at system (get_or order i 0)).extra
+      + get_or outputs (get_or order i 0) 0 - (shared_task_at system (get_or order i 0)).share)
       ≡ shared_running system (stands_in (take i order)) (get_or order i 0)
   running_is = omega (arith, at.memory_is, outs (get_or order i 0))
 
 -- ---- looked up places are those of the order
 
 module _ (n : ℕ) (order places : List ℕ) (are : (v : ℕ) → v ≤ n → get_or places v 0 ≡ place_in order v) where
-  last_same : (readers : List ℕ) → All (λ c. (1 ≤ c) × (c ≤ n)) readers → last_if_any (λ c. get_or places c 0) readers ≡ last_if_any (place_in order) readers
+  last_same : (readers : List ℕ) → All (λ c. (1 ≤ c) × (c ≤ n)) readers
+      → last_if_any (λ c. get_or places c 0) readers ≡ last_if_any (place_in order) readers
   last_same [] within = refl
-  last_same (c ∷ cs) within = ap (λ (k : ℕ). Some k) (last_place_same (λ v. get_or places v 0) (place_in order) (λ v. (1 ≤ v) × (v ≤ n)) (λ v task. are v task.1) (c ∷ cs) within)
+  last_same (c ∷ cs) within = ap (λ (k : ℕ). Some k)
+      (last_place_same (λ v. get_or places v 0) (place_in order) (λ v. (1 ≤ v) × (v ≤ n)) (λ v task. are v task.1) (c ∷ cs) within)
 
   pub freed_same : (i : ℕ) (xs : List SharedItem) → All (IsSharedItemWithin n) xs
       → shared_size_where (is_freed_at (λ c. get_or places c 0) i) xs ≡ shared_size_where (is_freed_at (place_in order) i) xs
   freed_same i [] within = refl
   freed_same i (x ∷ xs) within =
-      let here = ap (λ (o : Option ℕ). cond (is_named o i) x.size 0) (last_same x.readers (All-head (IsSharedItemWithin n) x xs within).readers) in
+      let here = ap (λ (o : Option ℕ). cond (is_named o i) x.size 0)
+      (last_same x.readers (All-head (IsSharedItemWithin n) x xs within).readers) in
       omega (
         arith,
         here,

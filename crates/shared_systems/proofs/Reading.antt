@@ -1,5 +1,6 @@
 -- A shared system as a system with one item of size 0 for each reader: it has the same orders and the same faults.
-use Rattle.std.proofs.Common.{◌≡◌, ℕ, ◌+◌, Bool, true, cond, not, ◌&&◌, ◌||◌, eqb, List, [], ◌∷◌, ◌++◌, map, length, Option, Some, None, refl, sym, ap, ◌∙◌}
+use Rattle.std.proofs.Common.{◌≡◌, ℕ, ◌+◌, Bool, true, cond, not, ◌&&◌, ◌||◌, eqb, List, [], ◌∷◌}
+use Rattle.std.proofs.Common.{◌++◌, map, length, Option, Some, None, refl, sym, ap, ◌∙◌}
 use Rattle.std.specs.List.{flat_map, list_all, list_any}
 use Rattle.std.specs.Option.{option_map_or}
 use Rattle.std.proofs.lemmas.List.Folds.{list_all-append}
@@ -44,13 +45,16 @@ module _ (system : SharedTaskSystem) where
 
   fault_same : (done : ℕ → Bool) (v : ℕ) → fault_of (reading system) done v ≡ shared_fault_of system done v
   fault_same done v =
-      ap (λ (b : Bool). cond {A = Option OrderKind} (not (is_task (reading system) v)) (Some Unknown) (cond (done v) (Some Repeated) (cond (not b) (Some TooEarly) None))) (ready_is done v)
+      ap (λ (b : Bool). cond {A = Option OrderKind} (not (is_task (reading system) v)) (Some Unknown)
+      (cond (done v) (Some Repeated) (cond (not b) (Some TooEarly) None))) (ready_is done v)
 
   pub faults_same : (before rest : List ℕ) → first_fault_after (reading system) before rest ≡ shared_fault_after system before rest
   faults_same before [] = refl
   faults_same before (v ∷ rest) =
-      ap (λ (o : Option (ℕ × OrderKind)). option_map_or (λ kind. Some (length before + 1, kind)) (fault_of (reading system) (stands_in before) v) o) (faults_same (before ++ v ∷ []) rest)
-      ∙ ap (λ (f : Option OrderKind). option_map_or (λ kind. Some (length before + 1, kind)) f (shared_fault_after system (before ++ v ∷ []) rest)) (fault_same (stands_in before) v)
+      ap (λ (o : Option (ℕ × OrderKind)). option_map_or (λ kind. Some (length before + 1, kind))
+      (fault_of (reading system) (stands_in before) v) o) (faults_same (before ++ v ∷ []) rest)
+      ∙ ap (λ (f : Option OrderKind). option_map_or (λ kind. Some (length before + 1, kind)) f
+      (shared_fault_after system (before ++ v ∷ []) rest)) (fault_same (stands_in before) v)
 
   pub to_shared : (order : List ℕ) → IsTraversal (reading system) order → IsSharedTraversal system order
   to_shared order traversal = record {

@@ -1,5 +1,6 @@
 -- Items as the code holds them: how many there are, each by its place, and those that arrays give.
-use Rattle.std.proofs.Common.{◌≡◌, ℕ, zero, suc, ◌+◌, ◌-◌, ◌<◌, ◌≤◌, List, [], ◌∷◌, ◌++◌, length, take, drop, get_or, refl, sym, ap, ◌∙◌, arith, Option}
+use Rattle.std.proofs.Common.{◌≡◌, ℕ, zero, suc, ◌+◌, ◌-◌, ◌<◌, ◌≤◌, List, [], ◌∷◌, ◌++◌, length}
+use Rattle.std.proofs.Common.{take, drop, get_or, refl, sym, ap, ◌∙◌, arith, Option}
 use Rattle.std.specs.List.{sum_by}
 use Rattle.std.proofs.lemmas.List.{get_or_read, take_more}
 use Rattle.std.proofs.lemmas.List.Sums.{sum_by-cons, sum_by_more}
@@ -56,7 +57,8 @@ module _ (xs : List Entry) (readers : List ℕ) (i : ℕ) (lt : i < length xs) w
   pub from_is : (shared_item_at (stored_items 0 xs readers) i).from ≡ end_given (get_or xs i no_entry).from
   from_is = ap (λ (x : SharedItem). x.from) item_is
 
-  pub readers_are : (shared_item_at (stored_items 0 xs readers) i).readers ≡ take (end_at xs i - start_at xs i) (drop (start_at xs i) readers)
+  pub readers_are :
+      (shared_item_at (stored_items 0 xs readers) i).readers ≡ take (end_at xs i - start_at xs i) (drop (start_at xs i) readers)
   readers_are = ap (λ (x : SharedItem). x.readers) item_is
 
 -- what the code reads of the item at a place
@@ -70,11 +72,13 @@ module _ (xs : List Entry) (readers : List ℕ) (now : List SharedItem) (view : 
 
     pub size_at : (x : Entry) → x ≡ get_or xs i x → x.size ≡ (shared_item_at now i).size
     size_at x is =
-        ap (λ (y : Entry). y.size) (get_or_read xs i x inside is no_entry) ∙ sym (size_is xs readers i inside) ∙ ap (λ (l : List SharedItem). (shared_item_at l i).size) view
+        ap (λ (y : Entry). y.size) (get_or_read xs i x inside is no_entry)
+        ∙ sym (size_is xs readers i inside) ∙ ap (λ (l : List SharedItem). (shared_item_at l i).size) view
 
     pub from_at : (x : Entry) (from : Option ℕ) → x ≡ get_or xs i x → from ≡ end_given x.from → from ≡ (shared_item_at now i).from
     from_at x from is from_is' =
-        from_is' ∙ ap (λ (y : Entry). end_given y.from) (get_or_read xs i x inside is no_entry) ∙ sym (from_is xs readers i inside) ∙ ap (λ (l : List SharedItem). (shared_item_at l i).from) view
+        from_is' ∙ ap (λ (y : Entry). end_given y.from) (get_or_read xs i x inside is no_entry)
+        ∙ sym (from_is xs readers i inside) ∙ ap (λ (l : List SharedItem). (shared_item_at l i).from) view
 
     pub readers_at : take (end_at xs i - start_at xs i) (drop (start_at xs i) readers) ≡ (shared_item_at now i).readers
     readers_at = sym (readers_are xs readers i inside) ∙ ap (λ (l : List SharedItem). (shared_item_at l i).readers) view
@@ -93,22 +97,26 @@ drop_both (suc a) b (x ∷ xs) = drop_both a b xs ∙ ap (λ (k : ℕ). drop k (
     next : suc (a + b) ≡ suc a + b
     next = omega arith
 
-pub stored_given : (start : ℕ) (xs : List GivenSharedItem) (readers : List ℕ) → stored_items start (entries_of start xs) readers ≡ items_given xs (drop start readers)
+pub stored_given : (start : ℕ) (xs : List GivenSharedItem) (readers : List ℕ)
+    → stored_items start (entries_of start xs) readers ≡ items_given xs (drop start readers)
 stored_given start [] readers = refl
 stored_given start (x ∷ xs) readers =
     let long : start + x.readers - start ≡ x.readers = omega arith in
-    ap (λ (k : ℕ). item_of x.size (end_given x.from) (take k (drop start readers)) ∷ stored_items (start + x.readers) (entries_of (start + x.readers) xs) readers) long
+    ap (λ (k : ℕ). item_of x.size (end_given x.from) (take k (drop start readers))
+    ∷ stored_items (start + x.readers) (entries_of (start + x.readers) xs) readers) long
     ∙ ap (λ (ys : List SharedItem). item_of x.size (end_given x.from) (take x.readers (drop start readers)) ∷ ys)
     (stored_given (start + x.readers) xs readers ∙ ap (items_given xs) (sym (drop_both start x.readers readers)))
 
 pub given_is : (entries : List Entry) (xs : List GivenSharedItem) (stored readers : List ℕ) → entries ≡ entries_of 0 xs → stored ≡ readers
     → stored_items 0 entries stored ≡ items_given xs readers
 given_is entries xs stored readers entries_are stored_is =
-    ap (λ (es : List Entry). stored_items 0 es stored) entries_are ∙ ap (stored_items 0 (entries_of 0 xs)) stored_is ∙ stored_given 0 xs readers
+    ap (λ (es : List Entry). stored_items 0 es stored) entries_are
+    ∙ ap (stored_items 0 (entries_of 0 xs)) stored_is ∙ stored_given 0 xs readers
 
 -- the ends rise up to the number of all readers
 ends : (start : ℕ) (xs : List GivenSharedItem) (i : ℕ) → i < length (entries_of start xs)
-    → (begin start (entries_of start xs) i ≤ end_at (entries_of start xs) i) × (end_at (entries_of start xs) i ≤ start + sum_by count_given xs)
+    → (begin start (entries_of start xs) i ≤ end_at (entries_of start xs) i)
+    × (end_at (entries_of start xs) i ≤ start + sum_by count_given xs)
 ends start [] i lt = absurd (omega arith)
 ends start (x ∷ xs) zero lt = (omega arith, omega (arith, sum_by-cons count_given x xs))
 ends start (x ∷ xs) (suc i) lt =
@@ -116,7 +124,8 @@ ends start (x ∷ xs) (suc i) lt =
     let same = begin-tail (entry x.size x.from (start + x.readers)) (entries_of (start + x.readers) xs) i in
     (omega (arith, rest.0, same), omega (arith, rest.1, sum_by-cons count_given x xs))
 
-pub stored_from : (entries : List Entry) (xs : List GivenSharedItem) (readers : List ℕ) → entries ≡ entries_of 0 xs → sum_by count_given xs ≡ length readers
+pub stored_from : (entries : List Entry) (xs : List GivenSharedItem) (readers : List ℕ)
+    → entries ≡ entries_of 0 xs → sum_by count_given xs ≡ length readers
     → AreStored entries readers
 stored_from entries xs readers entries_are counts = rw entries_are (record {
   rising = λ i lt. (let e = (ends 0 xs i lt).0 in omega (arith, e, begin-zero (entries_of 0 xs) i));
@@ -125,10 +134,12 @@ stored_from entries xs readers entries_are counts = rw entries_are (record {
 
 -- ---- one entry more
 
-entries-append : (start : ℕ) (xs ys : List GivenSharedItem) → entries_of start (xs ++ ys) ≡ entries_of start xs ++ entries_of (start + sum_by count_given xs) ys
+entries-append : (start : ℕ) (xs ys : List GivenSharedItem)
+    → entries_of start (xs ++ ys) ≡ entries_of start xs ++ entries_of (start + sum_by count_given xs) ys
 entries-append start [] ys = ap (λ (k : ℕ). entries_of k ys) (omega arith)
 entries-append start (x ∷ xs) ys =
-    let sum : start + x.readers + sum_by count_given xs ≡ start + sum_by count_given (x ∷ xs) = omega (arith, sum_by-cons count_given x xs) in
+    let sum : start + x.readers + sum_by count_given xs ≡ start + sum_by count_given (x ∷ xs) =
+    omega (arith, sum_by-cons count_given x xs) in
     ap (λ (es : List Entry). entry x.size x.from (start + x.readers) ∷ es)
     (entries-append (start + x.readers) xs ys ∙ ap (λ (k : ℕ). entries_of (start + x.readers) xs ++ entries_of k ys) sum)
 
@@ -148,7 +159,9 @@ module _ (xs : List GivenSharedItem) (i : ℕ) (lt : i < length xs) (entries lat
   pub end_next : next ≡ sum_by count_given (take (i + 1) xs)
   end_next = omega (arith, next_is, end_is, sum_by_more count_given xs i no_given lt)
 
-  pub entries_next : later ≡ entries ++ entry (get_or xs i no_given).size (get_or xs i no_given).from next ∷ [] → later ≡ entries_of 0 (take (i + 1) xs)
+  pub entries_next : later ≡ entries ++ entry (get_or xs i no_given).size (get_or xs i no_given).from next ∷ []
+      → later ≡ entries_of 0 (take (i + 1) xs)
   entries_next is =
       is ∙ ap (λ (es : List Entry). es ++ entry (get_or xs i no_given).size (get_or xs i no_given).from next ∷ []) entries_are
-      ∙ sym (ap (entries_of 0) (take_more xs i no_given lt) ∙ entries-push (take i xs) (get_or xs i no_given) next (omega (arith, next_is, end_is)))
+      ∙ sym (ap (entries_of 0) (take_more xs i no_given lt)
+      ∙ entries-push (take i xs) (get_or xs i no_given) next (omega (arith, next_is, end_is)))

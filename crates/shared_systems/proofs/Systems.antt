@@ -1,5 +1,6 @@
 -- The system of a shared system is within the limits; its items, one item after the other.
-use Rattle.std.proofs.Common.{◌≡◌, ℕ, ◌+◌, ◌<◌, ◌≤◌, Bool, true, false, cond, List, [], ◌∷◌, ◌++◌, length, length-append, get_or, take, append_assoc, Option, Some, None, refl, sym, ap, subst, ◌∙◌, arith, inl, inr}
+use Rattle.std.proofs.Common.{◌≡◌, ℕ, ◌+◌, ◌<◌, ◌≤◌, Bool, true, false, cond, List, [], ◌∷◌, ◌++◌, length, length-append}
+use Rattle.std.proofs.Common.{get_or, take, append_assoc, Option, Some, None, refl, sym, ap, subst, ◌∙◌, arith, inl, inr}
 use Rattle.std.specs.Prelude.{All, count_by, replicate}
 use Rattle.std.specs.List.{sum_by}
 use Rattle.std.specs.Option.{ForSome}
@@ -15,7 +16,8 @@ use Rattle.mp_system.specs.declared.system.Item.{Item}
 use Rattle.mp_system.specs.System.{IsTask, IsSystem, IsTaskWithin, IsItemWithin, extra_size, item_size}
 use Rattle.mp_system.specs.Renaming.{has_producer}
 use Rattle.shared_systems.specs.Shared.{SharedTaskSystem, SharedItem, HasTask, shared_item_at}
-use Rattle.shared_systems.specs.Collected.{are_several, is_shared, taker, wait, waits_for, waits_of, kept_item, wait_items, next_from, items_from, wait_count, collector, collected, HasRoom}
+use Rattle.shared_systems.specs.Collected.{are_several, is_shared, taker, wait, waits_for, waits_of, kept_item, wait_items}
+use Rattle.shared_systems.specs.Collected.{next_from, items_from, wait_count, collector, collected, HasRoom}
 use Rattle.shared_systems.specs.Bounds.{IsSharedItemWithin, IsSharedSystem, shared_size}
 use Rattle.shared_systems.proofs.ItemParts.{item_counts}
 use Rattle.shared_systems.proofs.States.{next_ge, task_same, inputs_same, outputs_same}
@@ -25,15 +27,18 @@ use Rattle.shared_systems.proofs.WovenOrders.{collector_at, task_count}
 
 -- ---- one item after the other
 
-pub items_from-append : (k : ℕ) (xs ys : List SharedItem) → items_from k (xs ++ ys) ≡ items_from k xs ++ items_from (k + count_by is_shared xs) ys
+pub items_from-append : (k : ℕ) (xs ys : List SharedItem)
+    → items_from k (xs ++ ys) ≡ items_from k xs ++ items_from (k + count_by is_shared xs) ys
 items_from-append k [] ys = ap (λ (j : ℕ). items_from j ys) (let e : k ≡ k + count_by is_shared [] = omega arith in e)
 items_from-append k (x ∷ xs) ys =
     let own = kept_item k x ∷ wait_items k x in
-    ap (λ (l : List Item). own ++ l) (items_from-append (next_from k x) xs ys ∙ ap (λ (j : ℕ). items_from (next_from k x) xs ++ items_from j ys) (more_shared k x xs))
+    ap (λ (l : List Item). own ++ l)
+    (items_from-append (next_from k x) xs ys ∙ ap (λ (j : ℕ). items_from (next_from k x) xs ++ items_from j ys) (more_shared k x xs))
     ∙ sym (append_assoc own (items_from (next_from k x) xs) (items_from (k + count_by is_shared (x ∷ xs)) ys))
 
 pub items_more : (k : ℕ) (xs : List SharedItem) (i : ℕ) (d : SharedItem) → i < length xs
-    → items_from k (take (i + 1) xs) ≡ items_from k (take i xs) ++ (kept_item (k + count_by is_shared (take i xs)) (get_or xs i d) ∷ wait_items (k + count_by is_shared (take i xs)) (get_or xs i d))
+    → items_from k (take (i + 1) xs) ≡ items_from k (take i xs) ++ (kept_item (k + count_by is_shared (take i xs)) (get_or xs i d)
+    ∷ wait_items (k + count_by is_shared (take i xs)) (get_or xs i d))
 items_more k xs i d lt =
     let j = k + count_by is_shared (take i xs) in
     let x = get_or xs i d in
@@ -43,7 +48,8 @@ items_more k xs i d lt =
 
 pub item_next : (first i next : ℕ) (xs : List SharedItem) (items later : List Item) → i < length xs
     → items ≡ items_from first (take i xs) → next ≡ first + count_by is_shared (take i xs)
-    → later ≡ items ++ (kept_item next (shared_item_at xs i) ∷ wait_items next (shared_item_at xs i)) → later ≡ items_from first (take (i + 1) xs)
+    → later ≡ items ++ (kept_item next (shared_item_at xs i) ∷ wait_items next (shared_item_at xs i))
+    → later ≡ items_from first (take (i + 1) xs)
 item_next first i next xs items later lt items_are next_is later_is =
     let x = shared_item_at xs i in
     later_is
@@ -69,29 +75,37 @@ module _ (system : SharedTaskSystem) (within : All (IsSharedItemWithin (length s
   wait_within : (u v : ℕ) → IsTask (collected system) u → IsTask (collected system) v → IsItemWithin (collected system) (wait u v)
   wait_within u v from to = record { size = omega arith; producer = some_task u from; consumer = some_task v to }
 
-  waits_for_within : (from : Option ℕ) (to : List ℕ) → ForSome from (HasTask system) → All (HasTask system) to → All (IsItemWithin (collected system)) (waits_for from to)
+  waits_for_within : (from : Option ℕ) (to : List ℕ) → ForSome from (HasTask system)
+      → All (HasTask system) to → All (IsItemWithin (collected system)) (waits_for from to)
   waits_for_within None to producer readers = All-nil (IsItemWithin (collected system))
   waits_for_within (Some u) to producer readers =
       All-map (IsItemWithin (collected system)) (wait u) to
-      (All-weaker (HasTask system) (λ c. IsItemWithin (collected system) (wait u c)) (λ c task. wait_within u c (more_tasks u (producer u refl)) (more_tasks c task)) to readers)
+      (All-weaker (HasTask system) (λ c. IsItemWithin (collected system) (wait u c))
+      (λ c task. wait_within u c (more_tasks u (producer u refl)) (more_tasks c task)) to readers)
 
-  waits_of_within : (k : ℕ) (to : List ℕ) → IsTask (collected system) k → All (HasTask system) to → All (IsItemWithin (collected system)) (waits_of k to)
+  waits_of_within : (k : ℕ) (to : List ℕ) → IsTask (collected system) k
+      → All (HasTask system) to → All (IsItemWithin (collected system)) (waits_of k to)
   waits_of_within k to task readers =
       All-map (IsItemWithin (collected system)) (λ c. wait c k) to
-      (All-weaker (HasTask system) (λ c. IsItemWithin (collected system) (wait c k)) (λ c is. wait_within c k (more_tasks c is) task) to readers)
+      (All-weaker (HasTask system) (λ c. IsItemWithin (collected system) (wait c k))
+      (λ c is. wait_within c k (more_tasks c is) task) to readers)
 
-  taker_within : (k : ℕ) (to : List ℕ) → (are_several to ≡ true → IsTask (collected system) k) → All (HasTask system) to → ForSome (taker k to) (IsTask (collected system))
+  taker_within : (k : ℕ) (to : List ℕ) → (are_several to ≡ true → IsTask (collected system) k)
+      → All (HasTask system) to → ForSome (taker k to) (IsTask (collected system))
   taker_within k [] task readers = λ x e. absurd cc
   taker_within k (c ∷ []) task readers = some_task c (more_tasks c (All-head (HasTask system) c [] readers))
   taker_within k (c ∷ d ∷ cs) task readers = some_task k (task refl)
 
-  waits_within : (k : ℕ) (from : Option ℕ) (to : List ℕ) (several : Bool) → (several ≡ true → IsTask (collected system) k) → ForSome from (HasTask system) → All (HasTask system) to
+  waits_within : (k : ℕ) (from : Option ℕ) (to : List ℕ) (several : Bool)
+      → (several ≡ true → IsTask (collected system) k) → ForSome from (HasTask system) → All (HasTask system) to
       → All (IsItemWithin (collected system)) (cond several (waits_for from to ++ waits_of k to) [])
   waits_within k from to true task producer readers =
-      All-append (IsItemWithin (collected system)) (waits_for from to) (waits_of k to) (waits_for_within from to producer readers) (waits_of_within k to (task refl) readers)
+      All-append (IsItemWithin (collected system)) (waits_for from to) (waits_of k to)
+      (waits_for_within from to producer readers) (waits_of_within k to (task refl) readers)
   waits_within k from to false task producer readers = All-nil (IsItemWithin (collected system))
 
-  items_within : (k : ℕ) (xs : List SharedItem) → length system.tasks + 1 ≤ k → k + count_by is_shared xs ≤ length system.tasks + 1 + count_by is_shared system.items
+  items_within : (k : ℕ) (xs : List SharedItem) → length system.tasks + 1 ≤ k
+      → k + count_by is_shared xs ≤ length system.tasks + 1 + count_by is_shared system.items
       → All (IsSharedItemWithin (length system.tasks)) xs → All (IsItemWithin (collected system)) (items_from k xs)
   items_within k [] low high each = All-nil (IsItemWithin (collected system))
   items_within k (x ∷ xs) low high each =
@@ -101,13 +115,23 @@ module _ (system : SharedTaskSystem) (within : All (IsSharedItemWithin (length s
       (omega arith, omega (arith, one, sum_by-cons (λ y. cond (is_shared y) 1 0) x xs, task_count system within))) in
       All-append (IsItemWithin (collected system)) (kept_item k x ∷ wait_items k x) (items_from (next_from k x) xs)
       (All-cons (IsItemWithin (collected system)) (kept_item k x) (wait_items k x)
-      (record { size = here.size; producer = λ v e. more_tasks v (here.producer v e); consumer = taker_within k x.readers task here.readers })
+      (record {
+        size = here.size;
+        producer = λ v e. more_tasks v (here.producer v e);
+        consumer = taker_within k x.readers task here.readers;
+      })
       (waits_within k x.from x.readers (is_shared x) task here.producer here.readers))
-      (items_within (next_from k x) xs (omega (arith, next_ge k x)) (omega (arith, more_shared k x xs)) (All-tail (IsSharedItemWithin (length system.tasks)) x xs each))
+      (items_within (next_from k x) xs (omega (arith, next_ge k x)) (omega (arith, more_shared k x xs))
+      (All-tail (IsSharedItemWithin (length system.tasks)) x xs each))
 
 sizes_same : (k : ℕ) (xs : List SharedItem) → sum_by item_size (items_from k xs) ≡ sum_by shared_size xs
 sizes_same k [] = refl
-sizes_same k (x ∷ xs) = omega (arith, item_counts (λ item. true) k x (items_from (next_from k x) xs), sum_by-cons shared_size x xs, sizes_same (next_from k x) xs)
+sizes_same k (x ∷ xs) = omega (
+  arith,
+  item_counts (λ item. true) k x (items_from (next_from k x) xs),
+  sum_by-cons shared_size x xs,
+  sizes_same (next_from k x) xs,
+)
 
 collector_within : IsTaskWithin collector
 collector_within = record { extra = omega arith; time = (omega arith, omega arith) }
@@ -116,7 +140,8 @@ pub collected_within : (system : SharedTaskSystem) → IsSharedSystem system →
 collected_within system is room = record {
   few_tasks = room.tasks;
   few_items = room.items;
-  tasks = All-append IsTaskWithin system.tasks (replicate (count_by is_shared system.items) collector) is.tasks (All-replicate IsTaskWithin (count_by is_shared system.items) collector collector_within);
+  tasks = All-append IsTaskWithin system.tasks (replicate (count_by is_shared system.items) collector) is.tasks
+      (All-replicate IsTaskWithin (count_by is_shared system.items) collector collector_within);
   items = items_within system is.items (length system.tasks + 1) system.items (omega arith) (omega arith) is.items;
   total = omega (
     arith,
@@ -127,20 +152,24 @@ collected_within system is room = record {
   );
   shares = λ v task. elim (cases_lt (length system.tasks) v) [
     | inl above ↦ (
-        let share = ap (λ (t : Task). t.share) (collector_at system is.items v (omega arith) (omega (arith, task.1, task_count system is.items))) in
+        let share = ap (λ (t : Task). t.share)
+        (collector_at system is.items v (omega arith) (omega (arith, task.1, task_count system is.items))) in
         (omega (arith, share), omega (arith, share))
         )
     | inr below ↦ (
         let share = ap (λ (t : Task). t.share) (task_same system v (task.0, below)) in
         let extra = ap (λ (t : Task). t.extra) (task_same system v (task.0, below)) in
         let fits = is.shares v (task.0, below) in
-        let out = outputs_same v (length system.tasks + 1) system.items in
-        (omega (arith, share, fits.0, inputs_same v (length system.tasks + 1) system.items (omega arith)), omega (arith, share, extra, fits.1, out))
+        let out = outputs_same v (length system.tasks + 1) system.items in (
+          omega (arith, share, fits.0, inputs_same v (length system.tasks + 1) system.items (omega arith)),
+          omega (arith, share, extra, fits.1, out),
+        )
         )
   ];
 }
 
-pub made_within : (system : SharedTaskSystem) (tasks : List Task) (items : List Item) → IsSharedSystem system → HasRoom system → tasks ≡ (collected system).tasks → items ≡ (collected system).items
+pub made_within : (system : SharedTaskSystem) (tasks : List Task) (items : List Item) → IsSharedSystem system
+    → HasRoom system → tasks ≡ (collected system).tasks → items ≡ (collected system).items
     → IsSystem (record { tasks = tasks; items = items })
 made_within system tasks items is room tasks_are items_are = rw (tasks_are, items_are) (collected_within system is room)
 
@@ -149,17 +178,25 @@ made_within system tasks items is room tasks_are items_are = rw (tasks_are, item
 wait_lengths : (k : ℕ) (from : Option ℕ) (to : List ℕ) (several : Bool)
     → length (cond several (waits_for from to ++ waits_of k to) []) ≡ cond several (cond (has_producer from) (length to) 0 + length to) 0
 wait_lengths k None to true = omega (arith, length-map to (λ c. wait c k))
-wait_lengths k (Some u) to true = omega (arith, length-append (waits_for (Some u) to) (waits_of k to), length-map to (wait u), length-map to (λ c. wait c k))
+wait_lengths k (Some u) to true =
+    omega (arith, length-append (waits_for (Some u) to) (waits_of k to), length-map to (wait u), length-map to (λ c. wait c k))
 wait_lengths k from to false = refl
 
 pub items_long : (k : ℕ) (xs : List SharedItem) → length (items_from k xs) ≡ length xs + sum_by wait_count xs
 items_long k [] = refl
 items_long k (x ∷ xs) =
-    omega (arith, length-append (wait_items k x) (items_from (next_from k x) xs), wait_lengths k x.from x.readers (is_shared x), sum_by-cons wait_count x xs, items_long (next_from k x) xs)
+    omega (
+      arith,
+      length-append (wait_items k x) (items_from (next_from k x) xs),
+      wait_lengths k x.from x.readers (is_shared x),
+      sum_by-cons wait_count x xs,
+      items_long (next_from k x) xs,
+    )
 
 -- ---- whether there is room for it
 
-module _ (system : SharedTaskSystem) (tasks : List Task) (items : List Item) (tasks_are : tasks ≡ (collected system).tasks) (items_are : items ≡ (collected system).items) where
+module _ (system : SharedTaskSystem) (tasks : List Task) (items : List Item)
+    (tasks_are : tasks ≡ (collected system).tasks) (items_are : items ≡ (collected system).items) where
   pub room : length tasks ≤ most_tasks → length items ≤ most_positions → HasRoom system
   room few_tasks few_items = record {
     tasks = omega (arith, few_tasks, ap (λ (l : List Task). length l) tasks_are);

@@ -1,6 +1,7 @@
 -- A shared system as a system, in which each item has at most one consumer: a shared item, one with several readers, gets a collector, a
 -- task without need that runs after all of them and alone consumes it.
-use Rattle.std.specs.Prelude.{ℕ, ◌+◌, ◌≤◌, Bool, true, false, nat_le, if◌then◌else◌, Option, Some, None, List, [], ◌∷◌, ◌++◌, length, map, count_by, replicate}
+use Rattle.std.specs.Prelude.{ℕ, ◌+◌, ◌≤◌, Bool, true, false, nat_le, if◌then◌else◌, Option, Some, None, List, [], ◌∷◌, ◌++◌}
+use Rattle.std.specs.Prelude.{length, map, count_by, replicate}
 use Rattle.std.specs.List.{filter}
 use Rattle.limits.specs.Limits.{most_tasks, most_positions}
 use Rattle.mp_system.specs.declared.system.Task.{Task}

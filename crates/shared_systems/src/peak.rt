@@ -1,6 +1,7 @@
 //! The peak of an order, from the places of its tasks: an item is freed after the last of its readers.
 
-ghost use Rattle.std.specs.Prelude.{◌≡◌, ℕ, ◌+◌, ◌<◌, ◌≤◌, ◌^◌, All, Some, None, IfOk, IfErr, MatchOption, length, slice_index, false, ◌||◌, not, slice_index_or};
+ghost use Rattle.std.specs.Prelude.{◌≡◌, ℕ, ◌+◌, ◌<◌, ◌≤◌, ◌^◌, All, Some, None, IfOk, IfErr, MatchOption, length, slice_index};
+ghost use Rattle.std.specs.Prelude.{false, ◌||◌, not, slice_index_or};
 ghost use Rattle.std.specs.List.{sum_by};
 ghost use Rattle.std.specs.Option.{ForSome};
 ghost use Rattle.limits.specs.Limits.{most_total};

@@ -53,11 +53,7 @@ fn index_peak(alloc: Global, order: &[u32]) -> Result<u64, ReplayRefusal> {
 }
 
 // What three tasks without needs and these items are refused with.
-fn refusal_of(
-    alloc: Global,
-    items: &[GivenSharedItem],
-    readers: &[u32],
-) -> Option<SharedRefusal> {
+fn refusal_of(alloc: Global, items: &[GivenSharedItem], readers: &[u32]) -> Option<SharedRefusal> {
     let tasks = [task(0, 0, 1), task(0, 0, 1), task(0, 0, 1)];
     match shared_system_of_arrays(alloc, &tasks, items, readers) {
         Ok(_) => None,
@@ -95,11 +91,26 @@ fn a_datum_counts_once_until_its_last_reader_has_run(rt: HostRuntime) {
 
 #[test]
 fn an_order_that_is_no_traversal_has_a_first_fault(rt: HostRuntime) {
-    assert_eq!(rt; diamond_peak(rt.alloc(), &[2, 1, 3, 4]), fault(1, OrderKind::TooEarly));
-    assert_eq!(rt; diamond_peak(rt.alloc(), &[1, 3, 1, 5]), fault(3, OrderKind::Repeated));
-    assert_eq!(rt; diamond_peak(rt.alloc(), &[1, 3, 2, 5]), fault(4, OrderKind::Unknown));
-    assert_eq!(rt; diamond_peak(rt.alloc(), &[1, 3, 2]), fault(4, OrderKind::Missing));
-    assert_eq!(rt; index_peak(rt.alloc(), &[3, 1, 2, 1]), fault(4, OrderKind::Repeated));
+    assert_eq!(rt;
+        diamond_peak(rt.alloc(), &[2, 1, 3, 4]),
+        fault(1, OrderKind::TooEarly)
+    );
+    assert_eq!(rt;
+        diamond_peak(rt.alloc(), &[1, 3, 1, 5]),
+        fault(3, OrderKind::Repeated)
+    );
+    assert_eq!(rt;
+        diamond_peak(rt.alloc(), &[1, 3, 2, 5]),
+        fault(4, OrderKind::Unknown)
+    );
+    assert_eq!(rt;
+        diamond_peak(rt.alloc(), &[1, 3, 2]),
+        fault(4, OrderKind::Missing)
+    );
+    assert_eq!(rt;
+        index_peak(rt.alloc(), &[3, 1, 2, 1]),
+        fault(4, OrderKind::Repeated)
+    );
 }
 
 #[test]
@@ -107,33 +118,60 @@ fn readers_rise_and_are_tasks_beside_the_producer(rt: HostRuntime) {
     let alloc = rt.alloc();
     let first = item(1, 1, 0);
     assert_eq!(rt; refusal_of(alloc, &[first, item(4, 1, 2)], &[2, 3]), None);
-    assert_eq!(rt; refusal_of(alloc, &[first, item(4, 4, 0)], &[]), failing(SharedItemTest::Producer, 2));
-    assert_eq!(rt; refusal_of(alloc, &[first, item(4, 1, 1)], &[4]), failing(SharedItemTest::Readers, 2));
-    assert_eq!(rt; refusal_of(alloc, &[first, item(4, 2, 1)], &[2]), failing(SharedItemTest::Apart, 2));
-    assert_eq!(rt; refusal_of(alloc, &[first, item(4, 1, 2)], &[3, 3]), failing(SharedItemTest::Rising, 2));
+    assert_eq!(rt;
+        refusal_of(alloc, &[first, item(4, 4, 0)], &[]),
+        failing(SharedItemTest::Producer, 2)
+    );
+    assert_eq!(rt;
+        refusal_of(alloc, &[first, item(4, 1, 1)], &[4]),
+        failing(SharedItemTest::Readers, 2)
+    );
+    assert_eq!(rt;
+        refusal_of(alloc, &[first, item(4, 2, 1)], &[2]),
+        failing(SharedItemTest::Apart, 2)
+    );
+    assert_eq!(rt;
+        refusal_of(alloc, &[first, item(4, 1, 2)], &[3, 3]),
+        failing(SharedItemTest::Rising, 2)
+    );
 }
 
 #[test]
 fn counts_sizes_and_sums_are_within_the_limits(rt: HostRuntime) {
     let alloc = rt.alloc();
     let large = 1_099_511_627_776;
-    assert_eq!(rt; refusal_of(alloc, &[item(4, 1, 2)], &[2]), Some(SharedRefusal::Counts));
+    assert_eq!(rt;
+        refusal_of(alloc, &[item(4, 1, 2)], &[2]),
+        Some(SharedRefusal::Counts)
+    );
     assert_eq!(rt; refusal_of(alloc, &[item(large, 1, 0)], &[]), None);
-    assert_eq!(rt; refusal_of(alloc, &[item(large + 1, 1, 0)], &[]), failing(SharedItemTest::Size, 1));
+    assert_eq!(rt;
+        refusal_of(alloc, &[item(large + 1, 1, 0)], &[]),
+        failing(SharedItemTest::Size, 1)
+    );
 }
 
 #[test]
 fn tasks_wait_for_one_another_in_no_circle(rt: HostRuntime) {
     let items = [item(0, 1, 1), item(0, 2, 1), item(0, 3, 1)];
-    assert_eq!(rt; refusal_of(rt.alloc(), &items, &[3, 3, 2]), Some(SharedRefusal::Cycle(2)));
+    assert_eq!(rt;
+        refusal_of(rt.alloc(), &items, &[3, 3, 2]),
+        Some(SharedRefusal::Cycle(2))
+    );
 }
 
 #[test]
 fn a_share_counts_what_the_task_alone_reads(rt: HostRuntime) {
     let alloc = rt.alloc();
     assert_eq!(rt; task_refusal(alloc, task(9, 0, 1)), None);
-    assert_eq!(rt; task_refusal(alloc, task(9, 1, 1)), Some(SharedRefusal::Share(2)));
-    assert_eq!(rt; task_refusal(alloc, task(9, 0, 0)), failing_task(TaskTest::Time, 2));
+    assert_eq!(rt;
+        task_refusal(alloc, task(9, 1, 1)),
+        Some(SharedRefusal::Share(2))
+    );
+    assert_eq!(rt;
+        task_refusal(alloc, task(9, 0, 0)),
+        failing_task(TaskTest::Time, 2)
+    );
 }
 
 // The number of tasks and of items of the diamond's collected system.

@@ -10,9 +10,11 @@ loop-i-preserved c =
     let l = c.loop-i in
     let inside : l.i < length c.args.all.now = omega (arith, c.loop-i-test.true, c.len-i-end.ensures) in
     let several = c.are_several.ensures ∙ ap are_several c.readers.ensures in
-    let count = λ (b : Bool) (e : b ≡ is_shared (shared_item_at c.args.all.now l.i)). count_next c.args.first l.i l.next c.args.all.now b inside e l.invariant.next_is in
+    let count = λ (b : Bool) (e : b ≡ is_shared (shared_item_at c.args.all.now l.i)).
+    count_next c.args.first l.i l.next c.args.all.now b inside e l.invariant.next_is in
     record {
-      items_are = item_next c.args.first l.i l.next c.args.all.now l.items.items c.push_item.new.items.items inside l.invariant.items_are l.invariant.next_is c.in_ok-push_item.ensures;
+      items_are = item_next c.args.first l.i l.next c.args.all.now l.items.items c.push_item.new.items.items
+          inside l.invariant.items_are l.invariant.next_is c.in_ok-push_item.ensures;
       next_is = elim c.if-are_several.branch [
         | then-are_several w ↦ omega (arith, w.next-is, count true (sym w.if-are_several.true ∙ several))
         | else-are_several w ↦ omega (arith, w.next-is, count false (sym w.if-are_several.false ∙ several))

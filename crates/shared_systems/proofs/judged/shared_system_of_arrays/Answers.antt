@@ -12,13 +12,19 @@ extras_of-requires-clause-within c =
 
 pub sizes_of-requires-clause-few : goal.sizes_of-requires-clause-few
 sizes_of-requires-clause-few c =
-    omega (arith, ap (λ (l : List SharedItem). length l) c.in_ok-made.ensures.items, length-given c.args.items.now c.args.readers.now, c.in_ok-made.ensures.plain.few.1)
+    omega (
+      arith,
+      ap (λ (l : List SharedItem). length l) c.in_ok-made.ensures.items,
+      length-given c.args.items.now c.args.readers.now,
+      c.in_ok-made.ensures.plain.few.1,
+    )
 
 pub returns-then-extras_of-sizes_of-gt-MOST_TOTAL-clause-refused : goal.returns-then-extras_of-sizes_of-gt-MOST_TOTAL-clause-refused
 returns-then-extras_of-sizes_of-gt-MOST_TOTAL-clause-refused c =
     let plain = c.in_ok-made.ensures.plain in
     let extras = c.extras_of.ensures.value ∙ ap (λ (l : List Task). sum_by extra_size l) c.deref.ensures.value in
-    let total = total_at c.args.tasks.now c.args.items.now c.args.readers.now plain c.in_ok-all.all.items c.in_ok-made.made c.extras_of.result c.sizes_of.result c.in_ok-all.ensures c.in_ok-made.ensures.items
+    let total = total_at c.args.tasks.now c.args.items.now c.args.readers.now plain c.in_ok-all.all.items
+    c.in_ok-made.made c.extras_of.result c.sizes_of.result c.in_ok-all.ensures c.in_ok-made.ensures.items
     extras c.sizes_of.ensures.value in
     (plain, omega (arith, c.if-extras_of-sizes_of-gt-MOST_TOTAL.true, total))
 
@@ -26,17 +32,21 @@ pub shared_system_of-requires : goal.shared_system_of-requires
 shared_system_of-requires c =
     let plain = c.in_ok-made.ensures.plain in
     let extras = c.extras_of.ensures.value ∙ ap (λ (l : List Task). sum_by extra_size l) c.deref.ensures.value in
-    let total = total_at c.args.tasks.now c.args.items.now c.args.readers.now plain c.in_ok-all.all.items c.in_ok-made.made c.extras_of.result c.sizes_of.result c.in_ok-all.ensures c.in_ok-made.ensures.items
+    let total = total_at c.args.tasks.now c.args.items.now c.args.readers.now plain c.in_ok-all.all.items
+    c.in_ok-made.made c.extras_of.result c.sizes_of.result c.in_ok-all.ensures c.in_ok-made.ensures.items
     extras c.sizes_of.ensures.value in
-    plain_from c.args.tasks.now c.args.items.now c.args.readers.now plain c.in_ok-all.all.items c.in_ok-made.made c.in_ok-all.ensures c.in_ok-made.ensures.items
+    plain_from c.args.tasks.now c.args.items.now c.args.readers.now plain
+    c.in_ok-all.all.items c.in_ok-made.made c.in_ok-all.ensures c.in_ok-made.ensures.items
     (omega (arith, c.if-extras_of-sizes_of-gt-MOST_TOTAL.false, total))
 
 pub returns-in-Err-clause-refused : goal.returns-in-Err-clause-refused
 returns-in-Err-clause-refused c =
     let plain = c.in_ok-made.ensures.plain in
     let extras = c.extras_of.ensures.value ∙ ap (λ (l : List Task). sum_by extra_size l) c.deref.ensures.value in
-    let total = total_at c.args.tasks.now c.args.items.now c.args.readers.now plain c.in_ok-all.all.items c.in_ok-made.made c.extras_of.result c.sizes_of.result c.in_ok-all.ensures c.in_ok-made.ensures.items
+    let total = total_at c.args.tasks.now c.args.items.now c.args.readers.now plain c.in_ok-all.all.items
+    c.in_ok-made.made c.extras_of.result c.sizes_of.result c.in_ok-all.ensures c.in_ok-made.ensures.items
     extras c.sizes_of.ensures.value in
     rw c.refusal_of.ensures
-    (refused_from c.args.tasks.now c.args.items.now c.args.readers.now plain c.in_ok-all.all.items c.in_ok-made.made c.in-Err.fault c.in_ok-all.ensures c.in_ok-made.ensures.items
+    (refused_from c.args.tasks.now c.args.items.now c.args.readers.now plain c.in_ok-all.all.items
+    c.in_ok-made.made c.in-Err.fault c.in_ok-all.ensures c.in_ok-made.ensures.items
     (omega (arith, c.if-extras_of-sizes_of-gt-MOST_TOTAL.false, total)) c.in-Err.ensures.refused)

@@ -10,4 +10,5 @@ pub returns-clause-need : goal.returns-clause-need
 returns-clause-need c = need_same
 
 pub returns-clause-collector : goal.returns-clause-collector
-returns-clause-collector c = λ system v within task above. (needs_nothing system within.items v (omega arith) (omega (arith, task.1, task_count system within.items))).0
+returns-clause-collector c = λ system v within task above.
+    (needs_nothing system within.items v (omega arith) (omega (arith, task.1, task_count system within.items))).0

@@ -10,7 +10,8 @@ returns-clause-traversal c = λ system order within traversal. traversal_woven s
 pub returns-clause-peak : goal.returns-clause-peak
 returns-clause-peak c = λ system order within traversal. (
     let below = peak_woven system within.items c.ready_law.ensures order traversal within.shares in
-    let above = c.dropping_law.ensures.peak system (woven system order) within (traversal_woven system within.items c.ready_law.ensures order traversal) in
+    let above = c.dropping_law.ensures.peak system (woven system order) within
+    (traversal_woven system within.items c.ready_law.ensures order traversal) in
     let back = ap (shared_peak_of system) (dropped_woven system within.items [] order traversal.tasks) in
     omega (arith, below, above, back)
     )

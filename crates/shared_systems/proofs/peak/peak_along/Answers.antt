@@ -8,9 +8,11 @@ pub overflow_add-running : goal.overflow_add-running
 overflow_add-running c =
     let o = c.args.order.now in
     let extra = ap (λ (l : List Task). (get_or l (get_or o c.loop-i.i 0 - 1) no_task).extra) c.tasks-tasks.ensures.value in
-    let small = extra_small c.args.system.now c.tasks-tasks.ensures.system o c.requires.traversal c.loop-i.i c.loop-i-test.true c.args.outputs.now c.args.freed.now c.requires.outputs.1 c.requires.freed.1
+    let small = extra_small c.args.system.now c.tasks-tasks.ensures.system o c.requires.traversal c.loop-i.i
+    c.loop-i-test.true c.args.outputs.now c.args.freed.now c.requires.outputs.1 c.requires.freed.1
     c.loop-i.memory c.loop-i.peak c.loop-i.invariant in
-    let out = output_small c.args.system.now c.tasks-tasks.ensures.system o c.requires.traversal c.loop-i.i c.loop-i-test.true c.args.outputs.now c.args.freed.now c.requires.outputs.1 c.requires.freed.1
+    let out = output_small c.args.system.now c.tasks-tasks.ensures.system o c.requires.traversal c.loop-i.i
+    c.loop-i-test.true c.args.outputs.now c.args.freed.now c.requires.outputs.1 c.requires.freed.1
     c.loop-i.memory c.loop-i.peak c.loop-i.invariant in
     omega (arith, extra, small, out)
 
@@ -18,25 +20,31 @@ pub overflow_add-running-in-loop-i : goal.overflow_add-running-in-loop-i
 overflow_add-running-in-loop-i c =
     let o = c.args.order.now in
     let extra = ap (λ (l : List Task). (get_or l (get_or o c.loop-i.i 0 - 1) no_task).extra) c.tasks-tasks.ensures.value in
-    let small = extra_small c.args.system.now c.tasks-tasks.ensures.system o c.requires.traversal c.loop-i.i c.loop-i-test.true c.args.outputs.now c.args.freed.now c.requires.outputs.1 c.requires.freed.1
+    let small = extra_small c.args.system.now c.tasks-tasks.ensures.system o c.requires.traversal c.loop-i.i
+    c.loop-i-test.true c.args.outputs.now c.args.freed.now c.requires.outputs.1 c.requires.freed.1
     c.loop-i.memory c.loop-i.peak c.loop-i.invariant in
-    let out = output_small c.args.system.now c.tasks-tasks.ensures.system o c.requires.traversal c.loop-i.i c.loop-i-test.true c.args.outputs.now c.args.freed.now c.requires.outputs.1 c.requires.freed.1
+    let out = output_small c.args.system.now c.tasks-tasks.ensures.system o c.requires.traversal c.loop-i.i
+    c.loop-i-test.true c.args.outputs.now c.args.freed.now c.requires.outputs.1 c.requires.freed.1
     c.loop-i.memory c.loop-i.peak c.loop-i.invariant in
-    let memory = memory_small c.args.system.now c.tasks-tasks.ensures.system o c.requires.traversal c.loop-i.i c.loop-i-test.true c.args.outputs.now c.args.freed.now c.requires.outputs.1 c.requires.freed.1
+    let memory = memory_small c.args.system.now c.tasks-tasks.ensures.system o c.requires.traversal
+    c.loop-i.i c.loop-i-test.true c.args.outputs.now c.args.freed.now c.requires.outputs.1 c.requires.freed.1
     c.loop-i.memory c.loop-i.peak c.loop-i.invariant in
     omega (arith, extra, small, out, memory)
 
 pub overflow_add-memory : goal.overflow_add-memory
 overflow_add-memory c =
-    let out = output_small c.args.system.now c.tasks-tasks.ensures.system c.args.order.now c.requires.traversal c.loop-i.i c.loop-i-test.true c.args.outputs.now c.args.freed.now c.requires.outputs.1 c.requires.freed.1
+    let out = output_small c.args.system.now c.tasks-tasks.ensures.system c.args.order.now c.requires.traversal
+    c.loop-i.i c.loop-i-test.true c.args.outputs.now c.args.freed.now c.requires.outputs.1 c.requires.freed.1
     c.loop-i.memory c.loop-i.peak c.loop-i.invariant in
-    let memory = memory_small c.args.system.now c.tasks-tasks.ensures.system c.args.order.now c.requires.traversal c.loop-i.i c.loop-i-test.true c.args.outputs.now c.args.freed.now c.requires.outputs.1 c.requires.freed.1
+    let memory = memory_small c.args.system.now c.tasks-tasks.ensures.system c.args.order.now c.requires.traversal
+    c.loop-i.i c.loop-i-test.true c.args.outputs.now c.args.freed.now c.requires.outputs.1 c.requires.freed.1
     c.loop-i.memory c.loop-i.peak c.loop-i.invariant in
     omega (arith, out, memory)
 
 pub overflow_sub-memory : goal.overflow_sub-memory
 overflow_sub-memory c =
-    freed_fits c.args.system.now c.tasks-tasks.ensures.system c.args.order.now c.requires.traversal c.loop-i.i c.loop-i-test.true c.args.outputs.now c.args.freed.now c.requires.outputs.1 c.requires.freed.1
+    freed_fits c.args.system.now c.tasks-tasks.ensures.system c.args.order.now c.requires.traversal
+    c.loop-i.i c.loop-i-test.true c.args.outputs.now c.args.freed.now c.requires.outputs.1 c.requires.freed.1
     c.loop-i.memory c.loop-i.peak c.loop-i.invariant
 
 pub loop-i-preserved : goal.loop-i-preserved
@@ -44,9 +52,11 @@ loop-i-preserved c =
     let o = c.args.order.now in
     let i = c.loop-i.i in
     let task = ap (λ (l : List Task). get_or l (get_or o i 0 - 1) no_task) c.tasks-tasks.ensures.value in
-    let after = memory_after c.args.system.now c.tasks-tasks.ensures.system o c.requires.traversal i c.loop-i-test.true c.args.outputs.now c.args.freed.now c.requires.outputs.1 c.requires.freed.1
+    let after = memory_after c.args.system.now c.tasks-tasks.ensures.system o c.requires.traversal
+    i c.loop-i-test.true c.args.outputs.now c.args.freed.now c.requires.outputs.1 c.requires.freed.1
     c.loop-i.memory c.loop-i.peak c.loop-i.invariant in
-    let running = running_is c.args.system.now c.tasks-tasks.ensures.system o c.requires.traversal i c.loop-i-test.true c.args.outputs.now c.args.freed.now c.requires.outputs.1 c.requires.freed.1
+    let running = running_is c.args.system.now c.tasks-tasks.ensures.system o c.requires.traversal
+    i c.loop-i-test.true c.args.outputs.now c.args.freed.now c.requires.outputs.1 c.requires.freed.1
     c.loop-i.memory c.loop-i.peak c.loop-i.invariant in
     rw (c.max-peak.ensures, c.max.ensures)
     (reaches-next c.args.system.now o i c.loop-i.memory c.loop-i.peak _ _ c.loop-i-test.true c.loop-i.invariant after

@@ -9,4 +9,9 @@ first_unordered-requires-clause-within c =
 
 pub first_unordered-requires-clause-few : goal.first_unordered-requires-clause-few
 first_unordered-requires-clause-few c =
-    omega (arith, ap (λ (l : List Arc). length l) (c.deref.ensures.value ∙ c.in_ok-arcs.ensures), arcs_long c.args.items.now, c.requires.plain.few_uses)
+    omega (
+      arith,
+      ap (λ (l : List Arc). length l) (c.deref.ensures.value ∙ c.in_ok-arcs.ensures),
+      arcs_long c.args.items.now,
+      c.requires.plain.few_uses,
+    )

@@ -15,11 +15,13 @@ use Rattle.shared_systems.proofs.weaving.due_rows.Goals as goal
 use Rattle.shared_systems.proofs.weaving.due_rows.Goals.{After-deref-2}
 
 -- the looked up places are those of the order
-keys_same : (system : SharedTaskSystem) (order places lasts : List ℕ) → IsSharedSystem system → ((v : ℕ) → v ≤ length system.tasks → get_or places v 0 ≡ place_in order v)
+keys_same : (system : SharedTaskSystem) (order places lasts : List ℕ) → IsSharedSystem system
+    → ((v : ℕ) → v ≤ length system.tasks → get_or places v 0 ≡ place_in order v)
     → lasts ≡ last_places (λ c. get_or places c 0) system.items → lasts ≡ last_places (place_in order) system.items
 keys_same system order places lasts is same lasts_are =
     lasts_are ∙ last_places_same (λ c. get_or places c 0) (place_in order) (HasTask system) (λ c task. same c task.1) system.items
-    (All-weaker (IsSharedItemWithin (length system.tasks)) (λ x. All (HasTask system) x.readers) (λ x within. within.readers) system.items is.items)
+    (All-weaker (IsSharedItemWithin (length system.tasks))
+    (λ x. All (HasTask system) x.readers) (λ x within. within.readers) system.items is.items)
 
 keys_are : (c : After-deref-2) → c.deref-2.result.now ≡ last_places (place_in c.args.order.now) c.args.system.now.items
 keys_are c =
@@ -33,7 +35,8 @@ keys_are c =
 pub group-requires-clause-below : goal.group-requires-clause-below
 group-requires-clause-below c =
     subst (All (λ key. key < length c.args.order.now + 1)) (sym (keys_are c))
-    (last_places_all (λ key. key < length c.args.order.now + 1) (place_in c.args.order.now) (λ to. omega (arith, last_place-le c.args.order.now to)) c.args.system.now.items)
+    (last_places_all (λ key. key < length c.args.order.now + 1) (place_in c.args.order.now)
+    (λ to. omega (arith, last_place-le c.args.order.now to)) c.args.system.now.items)
 
 pub group-requires-clause-fits : goal.group-requires-clause-fits
 group-requires-clause-fits c =
@@ -53,13 +56,16 @@ group-requires-clause-fits c =
 pub lasts_of-requires-clause-small : goal.lasts_of-requires-clause-small
 lasts_of-requires-clause-small c = λ v.
     let tasks_are = ap (λ (l : List Task). length l) c.tasks-tasks.ensures.value in
-    let small = places_small (length c.tasks-tasks.result.now) c.args.order.now c.in_ok-places.places.items c.in_ok-places.ensures.places c.in_ok-places.ensures.len v in
+    let small = places_small (length c.tasks-tasks.result.now) c.args.order.now
+    c.in_ok-places.places.items c.in_ok-places.ensures.places c.in_ok-places.ensures.len v in
     rw c.deref.ensures.value (omega (arith, small, c.requires, tasks_are, c.tasks-tasks.ensures.system.few_tasks))
 
-row_is : (system : SharedTaskSystem) (order keys row : List ℕ) (i n : ℕ) → i < length order → keys ≡ last_places (place_in order) system.items → n ≡ length system.tasks
+row_is : (system : SharedTaskSystem) (order keys row : List ℕ) (i n : ℕ) → i < length order
+    → keys ≡ last_places (place_in order) system.items → n ≡ length system.tasks
     → row ≡ numbers_with keys (n + 1) i → row ≡ due_after system (take i order) (get_or order i 0)
 row_is system order keys row i n lt keys_are n_is is =
-    is ∙ ap (λ (l : List ℕ). numbers_with l (n + 1) i) keys_are ∙ ap (λ (m : ℕ). numbers_with (last_places (place_in order) system.items) (m + 1) i) n_is ∙ sym (due_row system order i lt)
+    is ∙ ap (λ (l : List ℕ). numbers_with l (n + 1) i) keys_are
+    ∙ ap (λ (m : ℕ). numbers_with (last_places (place_in order) system.items) (m + 1) i) n_is ∙ sym (due_row system order i lt)
 
 pub returns-clause-rows : goal.returns-clause-rows
 returns-clause-rows c = λ i lt. (
@@ -69,6 +75,7 @@ returns-clause-rows c = λ i lt. (
     (c.deref-2.ensures.value ∙ c.in_ok-lasts.ensures
     ∙ ap (λ (l : List ℕ). last_places (λ v. get_or l v 0) c.items.result.now) c.deref.ensures.value
     ∙ ap (last_places (λ v. get_or c.in_ok-places.places.items v 0)) c.items.ensures.value) in
-    row_is c.args.system.now c.args.order.now c.deref-2.result.now (row_at c.in_ok-rows.rows i) i (length c.tasks-tasks.result.now) lt keys tasks_are
+    row_is c.args.system.now c.args.order.now c.deref-2.result.now
+    (row_at c.in_ok-rows.rows i) i (length c.tasks-tasks.result.now) lt keys tasks_are
     (c.in_ok-rows.ensures.rows i (omega arith))
     )

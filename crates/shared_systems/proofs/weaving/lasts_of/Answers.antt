@@ -5,4 +5,8 @@ use Rattle.shared_systems.proofs.weaving.lasts_of.Goals as goal
 
 pub overflow_cast-last_of : goal.overflow_cast-last_of
 overflow_cast-last_of c =
-    omega (arith, c.last_of.ensures, last_small (λ v. get_or c.args.places.now v 0) most_tasks c.requires.small c.readers-readers.result.now)
+    omega (
+      arith,
+      c.last_of.ensures,
+      last_small (λ v. get_or c.args.places.now v 0) most_tasks c.requires.small c.readers-readers.result.now,
+    )

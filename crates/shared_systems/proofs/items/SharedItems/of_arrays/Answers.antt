@@ -9,4 +9,5 @@ invariant_of-result c =
 
 pub returns : goal.returns
 returns c =
-    given_is c.in_ok-entries.entries.items c.args.items.now c.in_ok-readers.readers.items c.args.readers.now c.in_ok-entries.ensures c.in_ok-readers.ensures.items
+    given_is c.in_ok-entries.entries.items c.args.items.now c.in_ok-readers.readers.items
+    c.args.readers.now c.in_ok-entries.ensures c.in_ok-readers.ensures.items

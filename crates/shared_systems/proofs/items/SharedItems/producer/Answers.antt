@@ -10,4 +10,5 @@ index-requires c =
 pub returns : goal.returns
 returns c =
     let s = c.self.inside in
-    from_at s.entries.items s.readers.items c.args.self.now c.self.view_is c.args.i c.requires c.index.result.now c.end_of.result c.index.ensures c.end_of.ensures
+    from_at s.entries.items s.readers.items c.args.self.now c.self.view_is c.args.i
+    c.requires c.index.result.now c.end_of.result c.index.ensures c.end_of.ensures
