@@ -1,21 +1,14 @@
 # memplan: the program, the libraries, the Python package; their installation, a tarball of them, and the tests that need no toolchain.
 #
 #   make                      the program and the libraries
-#   make install PREFIX=..    them, memplan.h, memplan.pc, the Python package and the Fortran module, the man page, completions for bash and zsh;
-#                             DESTDIR= for packages
+#   make install PREFIX=..    them, memplan.h, what pkg-config and CMake look for, the Python package and the Fortran module, the man page,
+#                             completions for bash and zsh; DESTDIR= for packages
 #   make uninstall PREFIX=..
 #   make dist                 dist/memplan-VERSION-Linux-x86_64.tar.gz, and its checksum beside it
 #   make test                 tests of the program and of all that is around it; the last line is 'N passed, M failed'
 #
-# tools/program.sh says which program it is, and c/Makefile which libraries; no toolchain is needed where prebuilt/ is of these sources.
-
-PREFIX ?= /usr/local
-BINDIR ?= $(PREFIX)/bin
-PYTHONDIR ?= $(PREFIX)/share/memplan/python
-MANDIR ?= $(PREFIX)/share/man
-BASHDIR ?= $(PREFIX)/share/bash-completion/completions
-ZSHDIR ?= $(PREFIX)/share/zsh/site-functions
-DESTDIR ?=
+# tools/program.sh says which program it is, c/Makefile which libraries, and c/directories.mk what goes where; no toolchain is needed where
+# prebuilt/ is of these sources.
 
 VERSION := $(shell sed -n 's/^\#define MEMPLAN_VERSION "\(.*\)"$$/\1/p' c/memplan.h)
 NAME := memplan-$(VERSION)-Linux-x86_64
@@ -26,26 +19,37 @@ all:
 	bash -uc '$(SETTLED)'
 	$(MAKE) -C c
 
-install: all
-	install -d $(DESTDIR)$(BINDIR) $(DESTDIR)$(PYTHONDIR)/memplan $(DESTDIR)$(MANDIR)/man1 $(DESTDIR)$(BASHDIR) $(DESTDIR)$(ZSHDIR)
-	bash -uc '$(SETTLED); install -m 755 "$$program" $(DESTDIR)$(BINDIR)/memplan'
-	install -m 644 $(PYTHON:%=python/memplan/%) $(DESTDIR)$(PYTHONDIR)/memplan/
-	install -m 644 docs/memplan.1 $(DESTDIR)$(MANDIR)/man1/memplan.1
-	install -m 644 tools/completion/memplan.bash $(DESTDIR)$(BASHDIR)/memplan
-	install -m 644 tools/completion/_memplan $(DESTDIR)$(ZSHDIR)/_memplan
-	$(MAKE) -C c install
+include c/directories.mk
 
-uninstall:
-	rm -f $(DESTDIR)$(MANDIR)/man1/memplan.1 $(DESTDIR)$(BASHDIR)/memplan $(DESTDIR)$(ZSHDIR)/_memplan
-	rm -f $(DESTDIR)$(BINDIR)/memplan $(PYTHON:%=$(DESTDIR)$(PYTHONDIR)/memplan/%)
-	[ ! -d $(DESTDIR)$(PYTHONDIR)/memplan ] || rmdir --ignore-fail-on-non-empty $(DESTDIR)$(PYTHONDIR)/memplan
-	$(MAKE) -C c uninstall
+# The same folder for both Makefiles, wherever it is told from.
+STAGE = $(if $(DESTDIR),$(if $(filter /%,$(firstword $(DESTDIR))),$(DESTDIR),$(CURDIR)/$(DESTDIR)))
+# The Python package looks for the library in these folders by itself; in another one it is told by a link.
+LOOKED_IN = $(abspath $(PYTHONDIR)/../lib $(PYTHONDIR)/../../../lib)
+SONAME := libmemplan.so.$(firstword $(subst ., ,$(VERSION)))
+
+install: all absolute
+	$(INSTALL) -d '$(STAGE)$(bindir)' '$(STAGE)$(PYTHONDIR)/memplan' '$(STAGE)$(mandir)/man1' '$(STAGE)$(BASHDIR)' '$(STAGE)$(ZSHDIR)'
+	bash -uc '$(SETTLED); $(INSTALL_PROGRAM) "$$program" "$$0"' '$(STAGE)$(bindir)/memplan'
+	$(INSTALL_DATA) $(PYTHON:%=python/memplan/%) '$(STAGE)$(PYTHONDIR)/memplan/'
+	[ -n '$(filter $(LOOKED_IN),$(libdir))' ] || ln -sf "$$(realpath --canonicalize-missing --no-symlinks \
+	    --relative-to='$(PYTHONDIR)/memplan' '$(libdir)/$(SONAME)')" '$(STAGE)$(PYTHONDIR)/memplan/$(SONAME)'
+	$(INSTALL_DATA) docs/memplan.1 '$(STAGE)$(mandir)/man1/memplan.1'
+	$(INSTALL_DATA) tools/completion/memplan.bash '$(STAGE)$(BASHDIR)/memplan'
+	$(INSTALL_DATA) tools/completion/_memplan '$(STAGE)$(ZSHDIR)/_memplan'
+	$(MAKE) -C c install DESTDIR='$(STAGE)'
+
+# What Python has compiled beside the package goes too, and folders of memplan's own where nothing else is in them.
+uninstall: absolute
+	rm -f '$(STAGE)$(mandir)/man1/memplan.1' '$(STAGE)$(BASHDIR)/memplan' '$(STAGE)$(ZSHDIR)/_memplan' '$(STAGE)$(bindir)/memplan'
+	cd '$(STAGE)$(PYTHONDIR)/memplan' 2>/dev/null && rm -rf $(PYTHON) $(SONAME) __pycache__ || true
+	rmdir '$(STAGE)$(PYTHONDIR)/memplan' '$(STAGE)$(PYTHONDIR)' 2>/dev/null || true
+	$(MAKE) -C c uninstall DESTDIR='$(STAGE)'
 
 # What pkg-config says is relative to where the tarball is unpacked.
 dist: all
 	rm -rf dist && mkdir dist
 	$(MAKE) install DESTDIR='$(CURDIR)/dist/$(NAME)' PREFIX= BINDIR=/bin PYTHONDIR=/python
-	sed -i -E 's|^prefix=.*|prefix=$${pcfiledir}/../..|; s#^(includedir|libdir)=#&$${prefix}#' dist/$(NAME)/lib/pkgconfig/memplan.pc
+	sed -i 's|^prefix=.*|prefix=$${pcfiledir}/../..|' dist/$(NAME)/lib/pkgconfig/memplan.pc
 	install -m 644 prebuilt/README.md dist/$(NAME)/
 	cd dist/$(NAME) && find . -type f ! -name SHA256SUMS | LC_ALL=C sort | xargs sha256sum > SHA256SUMS
 	tar -C dist --sort=name --owner=0 --group=0 --numeric-owner --mtime='2000-01-01 00:00Z' -czf dist/$(NAME).tar.gz $(NAME)

@@ -29,7 +29,7 @@ extern "C" {
 #endif
 
 /* The version of this header; memplan_version() is that of the library. */
-#define MEMPLAN_VERSION "1.0.0"
+#define MEMPLAN_VERSION "1.1.0"
 const char *memplan_version(void);
 
 /* ---- data ---- */

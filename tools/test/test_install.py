@@ -70,7 +70,7 @@ class Installing(unittest.TestCase):
         self.assertEqual(self.run_words("bash", "-c", words, str(put / "share/bash-completion/completions/memplan")), "simulate\n")
 
     def files_below(self, folder: Path) -> List[str]:
-        return sorted(str(it.relative_to(folder)) for it in folder.rglob("*") if not it.is_dir())
+        return sorted(str(it.relative_to(folder)) for it in folder.rglob("*") if not it.is_dir() or it.name == "memplan")
 
     def test_what_is_installed_works_and_is_removed(self) -> None:
         put = self.folder / "put"
@@ -91,6 +91,44 @@ class Installing(unittest.TestCase):
         # another prefix, from the same build
         self.make("install", f"DESTDIR={self.folder}/stage", "PREFIX=/usr", where="c")
         self.assertIn("prefix=/usr\n", (self.folder / "stage/usr/lib/pkgconfig/memplan.pc").read_text())
+
+    def test_folders_are_told_by_the_names_of_gnu_and_nothing_lies_outside_of_the_stage(self) -> None:
+        away = self.folder / "away"
+        folders = {"libdir": "lib64", "includedir": "headers", "bindir": "programs", "mandir": "manual"}
+        words = [f"prefix={away}", *(f"{name}={away}/{folder}" for name, folder in folders.items()), "DESTDIR=stage"]
+        self.make()
+        before = self.files_below(self.folder)
+        self.make("install", *words)
+        after = self.files_below(self.folder)
+        self.assertEqual([it for it in after if not it.startswith("memplan/stage/")], before)
+        put = Path(f"{self.top}/stage{away}")
+        files = "lib64/libmemplan.so.1 lib64/cmake/memplan/memplan-config.cmake headers/memplan.h programs/memplan manual/man1/memplan.1"
+        for file in files.split():
+            self.assertTrue((put / file).is_file(), file)
+        self.assertEqual(
+            re.findall(r"^(\w+)=(.*)$", (put / "lib64/pkgconfig/memplan.pc").read_text(), re.M),
+            [("prefix", str(away)), ("exec_prefix", "${prefix}"), ("libdir", "${exec_prefix}/lib64"), ("includedir", "${prefix}/headers")],
+        )
+        for file in self.files_below(put):
+            if (put / file).suffix in (".pc", ".cmake"):
+                self.assertNotIn("stage", (put / file).read_text())
+        self.check_python(put / "share/memplan/python")
+        self.make("uninstall", *words)
+        self.assertEqual(self.files_below(put), [])
+        self.assertIn("the folder lib64 does not begin with a /", self.make("install", "libdir=lib64", "DESTDIR=stage", where="c", status=2))
+
+    def test_flags_are_the_callers(self) -> None:
+        flags = {"CC": "cc -DCOMPILER", "CPPFLAGS": "-DPREPROCESSOR -D_FORTIFY_SOURCE=1", "CFLAGS": "-O1 -DOPTIONS", "LDFLAGS": "-Wl,-z,lazy"}
+        said = self.make(*(f"{name}={words}" for name, words in flags.items()), where="c").splitlines()
+        (compiled,) = (line for line in said if " -c support.c" in line)
+        (linked,) = (line for line in said if " -shared " in line)
+        for line, names in ((compiled, ("CC", "CPPFLAGS", "CFLAGS")), (linked, ("CC", "CFLAGS", "LDFLAGS"))):
+            for name in names:
+                self.assertIn(flags[name], line)
+        self.assertIn("-fstack-protector-strong", compiled)
+        self.assertNotIn("_FORTIFY_SOURCE=2", compiled)
+        # the last word is the caller's
+        self.assertGreater(linked.index(flags["LDFLAGS"]), linked.index("-z,now"))
 
     def test_built_libraries_are_installed_where_no_sources_are(self) -> None:
         self.make(where="c")
