@@ -6,7 +6,7 @@ use Rattle.assembly_tree.specs.declared.front.Shape.TheVariants.{Triangle, Squar
 use Rattle.requests.specs.declared.commands.demo.Demo.TheVariants as demos
 use Rattle.requests.specs.Request.{Request, Input, tree_input, tree_named, matrix_named, workflow_named, Matrix, natural, min_degree}
 use Rattle.requests.specs.Request.{perm_named, order_named, plan_named, replay, tree, post, check, planning, as_file, as_json, simulate}
-use Rattle.requests.specs.Request.{demo, upgrade, tree_upgrade, plan_upgrade, fronts, reduce, files_of, FileRole, tree_file}
+use Rattle.requests.specs.Request.{demo, upgrade, tree_upgrade, plan_upgrade, spill, segments, fronts, reduce, files_of, FileRole, tree_file}
 use Rattle.requests.specs.Request.{workflow_file, graph_file, matrix_file, perm_file, order_file, plan_file, priority_file}
 use Rattle.requests.specs.Request.{plan_priority_file, NamedFile}
 use Rattle.requests.specs.Words.{request_of, AsksNothing}
