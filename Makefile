@@ -5,6 +5,7 @@
 #                             completions for bash and zsh; DESTDIR= for packages
 #   make uninstall PREFIX=..
 #   make dist                 dist/memplan-VERSION-Linux-x86_64.tar.gz, and its checksum beside it
+#   make wheel                dist/memplan-VERSION-py3-none-linux_x86_64.whl, for pip, by Python 3.11 or later
 #   make test                 tests of the program and of all that is around it; the last line is 'N passed, M failed'
 #
 # tools/program.sh says which program it is, c/Makefile which libraries, and c/directories.mk what goes where; no toolchain is needed where
@@ -13,7 +14,7 @@
 VERSION := $(shell sed -n 's/^\#define MEMPLAN_VERSION "\(.*\)"$$/\1/p' c/memplan.h)
 NAME := memplan-$(VERSION)-Linux-x86_64
 SETTLED = here='$(CURDIR)'; . tools/program.sh; find_program
-PYTHON := $(notdir $(wildcard python/memplan/*.py))
+PYTHON := $(notdir $(wildcard python/memplan/*.py python/memplan/py.typed))
 
 all:
 	bash -uc '$(SETTLED)'
@@ -55,7 +56,15 @@ dist: all
 	tar -C dist --sort=name --owner=0 --group=0 --numeric-owner --mtime='2000-01-01 00:00Z' -czf dist/$(NAME).tar.gz $(NAME)
 	cd dist && sha256sum $(NAME).tar.gz > $(NAME).tar.gz.sha256
 
+# The library inside is that of c/Makefile too.
+wheel:
+	python3 python/make_wheel.py dist
+
 test:
 	tools/run_tests
 
-.PHONY: all install uninstall dist test
+clean:
+	rm -rf dist
+	$(MAKE) -C c clean
+
+.PHONY: all install uninstall dist wheel test clean

@@ -14,9 +14,10 @@ import ctypes
 import os
 from array import array
 from pathlib import Path
-from typing import Any, Dict, List, NamedTuple, NoReturn, Optional, Sequence, Tuple, Type
+from typing import Any, Dict, List, Literal, NamedTuple, NoReturn, Optional, Sequence, SupportsIndex, Tuple, Type, Union
 
-from ._numbers import BOOLS, U32, U64, back, column, columns_of, numbers, structures, view, whole
+from ._numbers import BOOLS, U32, U64, back, column, columns_of, fields_of, numbers, structures, view, whole
+from ._types import Array, Matrix, Rows, WholeNumbers
 
 __all__ = [
     "Certificate",
@@ -132,9 +133,9 @@ class Refused(ValueError):
 
     def __init__(self, status: int, fault: _Fault) -> None:
         self.status = status
-        self.kind = fault.kind
-        self.at = fault.at
-        self.value = fault.value
+        self.kind: int = fault.kind
+        self.at: int = fault.at
+        self.value: int = fault.value
         place = f" at {self.at}" if self.at else ""
         told = f" ({self.value})" if self.value else ""
         super().__init__(_KINDS.get(self.kind, "refused") + place + told)
@@ -143,7 +144,7 @@ class Refused(ValueError):
 class Certificate(NamedTuple):
     """A plan with the claims that certify it; claims are tuples (position, backward, bound, rest)."""
 
-    order: Any
+    order: Union[Array, Sequence[int]]
     peak: int
     claims: List[Tuple[int, int, int, int]]
 
@@ -155,28 +156,29 @@ class Fronts(NamedTuple):
     by their fronts are an order of elimination with these fronts. ``columns`` says how many columns each front has.
     """
 
-    parent: Any
-    out: Any
-    extra: Any
-    share: Any
-    columns: Any
-    front_of: Any
+    parent: Array
+    out: Array
+    extra: Array
+    share: Array
+    columns: Array
+    front_of: Array
 
 
-_Signature = Tuple[Any, List[Any]]
+_Signature = Tuple[Any, List[Any]]  # a call's result and its arguments
 
 
 def _signatures() -> Tuple[Dict[str, _Signature], Dict[str, _Signature]]:
     """The result and the arguments of each call: of those that plan or begin a core, and of those on a core."""
     size, u32, u64 = ctypes.c_size_t, ctypes.c_uint32, ctypes.c_uint64
-    nodes = [ctypes.POINTER(_Node), size]
-    order = [ctypes.POINTER(u32), size]
-    claims = [ctypes.POINTER(_Claim), size]
-    system = [ctypes.POINTER(_Task), size, ctypes.POINTER(_Item), size]
-    number, fault = [ctypes.POINTER(u64)], [ctypes.POINTER(_Fault)]
-    options = [ctypes.POINTER(_FrontOptions)]
-    core = [ctypes.c_void_p]
-    plans = {
+    nodes: List[Any] = [ctypes.POINTER(_Node), size]
+    order: List[Any] = [ctypes.POINTER(u32), size]
+    claims: List[Any] = [ctypes.POINTER(_Claim), size]
+    system: List[Any] = [ctypes.POINTER(_Task), size, ctypes.POINTER(_Item), size]
+    number: List[Any] = [ctypes.POINTER(u64)]
+    fault: List[Any] = [ctypes.POINTER(_Fault)]
+    options: List[Any] = [ctypes.POINTER(_FrontOptions)]
+    core: List[Any] = [ctypes.c_void_p]
+    plans: Dict[str, _Signature] = {
         "version": (ctypes.c_char_p, []),
         "plan_tree": (u32, nodes + order + number + fault),
         "best_postorder": (u32, nodes + order + number + fault),
@@ -189,7 +191,7 @@ def _signatures() -> Tuple[Dict[str, _Signature], Dict[str, _Signature]]:
         "core_begin": (u32, core + nodes + order + [u64, u32] + fault),
         "core_begin_system": (u32, core + system + order + [u64, u32] + fault),
     }
-    steps = {
+    steps: Dict[str, _Signature] = {
         "core_size": (size, []),
         "core_new": (None, core),
         "core_end": (None, core),
@@ -206,16 +208,17 @@ def _signatures() -> Tuple[Dict[str, _Signature], Dict[str, _Signature]]:
 
 _HOW_TO_LOAD = """memplan cannot load its library: {}.
 Set MEMPLAN_LIBRARY to the path of libmemplan.so, or put libmemplan.so.1 where the system's loader looks (LD_LIBRARY_PATH, or ldconfig).
-`make -C c` in memplan's repository builds it, as c/build/libmemplan.so."""
+`make -C c` in memplan's repository builds it, as c/build/libmemplan.so; a wheel, made there by `make wheel`, has it inside."""
 
 
 def _library() -> str:
-    """The library that MEMPLAN_LIBRARY names; else the one that lies where this package lies: beside it, as in the repository (once `make -C c`
-    has built it), as in a tarball, or as `make install` puts both; else what the system's loader finds."""
+    """The library that MEMPLAN_LIBRARY names; else the one that lies where this package lies: in it, as from a wheel, or near it, as in the
+    repository (once `make -C c` has built it), as in a tarball, or as `make install` puts both; else what the system's loader finds."""
     here, name = Path(__file__).resolve().parent, "libmemplan.so.1"
-    near = [here, here.parents[1] / "c/build", here.parents[1] / "lib", *(above / "lib" for above in here.parents[3:4])]
+    above = list(here.parents)
+    near = [here, *(it / part for it in above[1:2] for part in ("c/build", "lib")), *(it / "lib" for it in above[3:4])]
     found = (str(folder / name) for folder in near if (folder / name).is_file())
-    return os.environ.get("MEMPLAN_LIBRARY") or next(found, name)
+    return os.environ.get("MEMPLAN_LIBRARY", "") or next(found, name)
 
 
 def _loaded(loader: Type[ctypes.CDLL], calls: Dict[str, _Signature]) -> ctypes.CDLL:
@@ -240,7 +243,7 @@ __version__: str = _plans.memplan_version().decode()
 """The version of the library."""
 
 
-def _nodes(parent: Sequence[int], out: Sequence[int], extra: Sequence[int], share: Optional[Sequence[int]]) -> Tuple[Any, int]:
+def _nodes(parent: WholeNumbers, out: WholeNumbers, extra: WholeNumbers, share: Optional[WholeNumbers]) -> Tuple[Any, int]:
     """The nodes as C has them, and how many they are."""
     columns = {"parent": column("parent[{}]", parent, U32), "out": column("out[{}]", out, U64), "extra": column("extra[{}]", extra, U64)}
     if share is not None:
@@ -263,14 +266,16 @@ def _answer(status: int, fault: _Fault) -> None:
         raise Refused(status, fault)
 
 
-def _order_of(call: Any, parent: Any, out: Any, extra: Any, share: Any) -> Tuple[Any, int]:
+def _order_of(call: Any, parent: Any, out: Any, extra: Any, share: Any) -> Tuple[Array, int]:
     nodes, count = _nodes(parent, out, extra, share)
     order, peak, fault = (ctypes.c_uint32 * max(count, 1))(), ctypes.c_uint64(), _Fault()
     _answer(call(nodes, count, order, count, ctypes.byref(peak), ctypes.byref(fault)), fault)
     return back(view(order, count)), peak.value
 
 
-def plan(parent: Sequence[int], out: Sequence[int], extra: Sequence[int], share: Optional[Sequence[int]] = None) -> Tuple[Any, int]:
+def plan(
+    parent: WholeNumbers, out: WholeNumbers, extra: WholeNumbers, share: Optional[WholeNumbers] = None
+) -> Tuple[Array, int]:
     """A traversal of least peak of a tree: the numbers of its nodes, from 1, and the peak.
 
     ``parent`` has the number of each node's parent, 0 at a root; ``out`` what it leaves to its parent; ``extra`` what it needs beside
@@ -280,14 +285,14 @@ def plan(parent: Sequence[int], out: Sequence[int], extra: Sequence[int], share:
 
 
 def best_postorder(
-    parent: Sequence[int], out: Sequence[int], extra: Sequence[int], share: Optional[Sequence[int]] = None
-) -> Tuple[Any, int]:
+    parent: WholeNumbers, out: WholeNumbers, extra: WholeNumbers, share: Optional[WholeNumbers] = None
+) -> Tuple[Array, int]:
     """The best postorder of a tree, and its peak."""
     return _order_of(_plans.memplan_best_postorder, parent, out, extra, share)
 
 
 def replay(
-    parent: Sequence[int], out: Sequence[int], extra: Sequence[int], order: Sequence[int], share: Optional[Sequence[int]] = None
+    parent: WholeNumbers, out: WholeNumbers, extra: WholeNumbers, order: WholeNumbers, share: Optional[WholeNumbers] = None
 ) -> int:
     """The peak of an order of a tree; `Refused` with the first place at which it is no traversal."""
     (nodes, count), (places, length) = _nodes(parent, out, extra, share), numbers("order[{}]", order)
@@ -297,7 +302,7 @@ def replay(
 
 
 def certify(
-    parent: Sequence[int], out: Sequence[int], extra: Sequence[int], share: Optional[Sequence[int]] = None
+    parent: WholeNumbers, out: WholeNumbers, extra: WholeNumbers, share: Optional[WholeNumbers] = None
 ) -> Certificate:
     """A traversal of least peak with the claims that certify it, which `check` accepts."""
     nodes, count = _nodes(parent, out, extra, share)
@@ -312,16 +317,16 @@ def certify(
             break
         room = fault.value  # is enough
     _answer(status, fault)
-    fields = [view(claims, written.value, name).tolist() for name, _ in _Claim._fields_]
-    return Certificate(back(view(order, count)), peak.value, list(zip(*fields)))
+    position, backward, bound, rest = (view(claims, written.value, name).tolist() for name in fields_of(_Claim))
+    return Certificate(back(view(order, count)), peak.value, list(zip(position, backward, bound, rest)))
 
 
 def check(
-    parent: Sequence[int],
-    out: Sequence[int],
-    extra: Sequence[int],
+    parent: WholeNumbers,
+    out: WholeNumbers,
+    extra: WholeNumbers,
     certificate: Certificate,
-    share: Optional[Sequence[int]] = None,
+    share: Optional[WholeNumbers] = None,
 ) -> None:
     """Judges a plan of a tree by its claims, whoever made it; `Refused` with the first objection.
 
@@ -332,24 +337,24 @@ def check(
     (nodes, count), (places, length) = _nodes(parent, out, extra, share), numbers("order[{}]", certificate.order)
     peak, claims = whole("peak", certificate.peak, U64), columns_of("claims", certificate.claims, _Claim)
     told, fault = len(claims[0]), _Fault()
-    made = structures(_Claim, told, **dict(zip(dict(_Claim._fields_), claims)))
+    made = structures(_Claim, told, **dict(zip(fields_of(_Claim), claims)))
     _answer(_plans.memplan_check_tree(nodes, count, places, length, peak, made, told, ctypes.byref(fault)), fault)
 
 
 def spill(
-    parent: Sequence[int],
-    out: Sequence[int],
-    extra: Sequence[int],
-    order: Sequence[int],
-    bound: int,
-    share: Optional[Sequence[int]] = None,
-) -> Tuple[Any, int]:
+    parent: WholeNumbers,
+    out: WholeNumbers,
+    extra: WholeNumbers,
+    order: WholeNumbers,
+    bound: SupportsIndex,
+    share: Optional[WholeNumbers] = None,
+) -> Tuple[Array, int]:
     """What has to go to disk where an order of a tree runs within a bound: the amount of each node's block, and all together."""
     (nodes, count), (places, length) = _nodes(parent, out, extra, share), numbers("order[{}]", order)
-    bound = whole("bound", bound, U64)
+    limit = whole("bound", bound, U64)
     amounts, volume, fault = (ctypes.c_uint64 * max(count, 1))(), ctypes.c_uint64(), _Fault()
     _answer(
-        _plans.memplan_spill_tree(nodes, count, places, length, bound, amounts, count, ctypes.byref(volume), ctypes.byref(fault)),
+        _plans.memplan_spill_tree(nodes, count, places, length, limit, amounts, count, ctypes.byref(volume), ctypes.byref(fault)),
         fault,
     )
     return back(view(amounts, count)), volume.value
@@ -361,7 +366,8 @@ _SHAPES = {"triangle": 0, "square": 1}
 def _columns(matrix: Any) -> Tuple[Any, Any]:
     """Where the columns start, and the rows of their entries."""
     if isinstance(matrix, tuple) and len(matrix) == 2:
-        return matrix
+        starts, rows = matrix
+        return starts, rows
     if not hasattr(matrix, "tocsc"):
         raise TypeError(
             f"matrix: taken is a sparse matrix of scipy, or the pair (indptr, indices) of its columns, and not this {type(matrix).__name__}"
@@ -372,7 +378,7 @@ def _columns(matrix: Any) -> Tuple[Any, Any]:
     return columns.indptr, columns.indices
 
 
-def _options(shape: str, in_place: bool, zeros: Optional[int]) -> _FrontOptions:
+def _options(shape: str, in_place: bool, zeros: Optional[SupportsIndex]) -> _FrontOptions:
     if shape not in tuple(_SHAPES):
         raise ValueError(f"shape: {shape!r} is neither 'triangle' nor 'square'")
     if not isinstance(in_place, BOOLS):
@@ -381,11 +387,11 @@ def _options(shape: str, in_place: bool, zeros: Optional[int]) -> _FrontOptions:
 
 
 def fronts(
-    matrix: Any,
-    order: Optional[Sequence[int]] = None,
-    shape: str = "triangle",
+    matrix: Matrix,
+    order: Optional[WholeNumbers] = None,
+    shape: Literal["triangle", "square"] = "triangle",
     in_place: bool = False,
-    zeros: Optional[int] = None,
+    zeros: Optional[SupportsIndex] = None,
 ) -> Fronts:
     """The fronts of a sparse symmetric matrix that is eliminated in an order, as a multifrontal solver makes them.
 
@@ -419,18 +425,18 @@ def fronts(
         ctypes.byref(fault),
     )
     _answer(status, fault)
-    fields = [back(view(nodes, made.value, name)) for name, _ in _Node._fields_]
-    return Fronts(*fields, back(view(front_of, count)))
+    parent, out, extra, share, columns = (back(view(nodes, made.value, name)) for name in fields_of(_Node))
+    return Fronts(parent, out, extra, share, columns, back(view(front_of, count)))
 
 
-def _system(tasks: Sequence[int], items: Sequence[Tuple[int, int, int]]) -> Tuple[Any, int, Any, int]:
+def _system(tasks: WholeNumbers, items: Rows) -> Tuple[Any, int, Any, int]:
     """The tasks and the items as C has them, and how many they are."""
     extras, (sizes, suppliers, consumers) = column("tasks[{}]", tasks, U64), columns_of("items", items, _Item)
     made = structures(_Task, len(extras), extra=extras, time=_ones(len(extras)))
     return made, len(extras), structures(_Item, len(sizes), size=sizes, from_=suppliers, to=consumers), len(sizes)
 
 
-def replay_system(tasks: Sequence[int], items: Sequence[Tuple[int, int, int]], order: Sequence[int]) -> int:
+def replay_system(tasks: WholeNumbers, items: Rows, order: WholeNumbers) -> int:
     """The peak of an order of tasks that hand items to each other: the extra of each task, and items (size, from, to), 0 for none."""
     system, (places, length) = _system(tasks, items), numbers("order[{}]", order)
     peak, fault = ctypes.c_uint64(), _Fault()
@@ -457,13 +463,13 @@ class Core:
     @classmethod
     def of_tree(
         cls,
-        parent: Sequence[int],
-        out: Sequence[int],
-        extra: Sequence[int],
-        order: Sequence[int],
-        bound: int,
-        workers: int,
-        share: Optional[Sequence[int]] = None,
+        parent: WholeNumbers,
+        out: WholeNumbers,
+        extra: WholeNumbers,
+        order: WholeNumbers,
+        bound: SupportsIndex,
+        workers: SupportsIndex,
+        share: Optional[WholeNumbers] = None,
     ) -> "Core":
         """A core for a tree, activated in an order; `Refused` where the order is none, or the bound is below its peak."""
         return cls._begun(_plans.memplan_core_begin, _nodes(parent, out, extra, share), order, bound, workers)
@@ -471,17 +477,17 @@ class Core:
     @classmethod
     def of_system(
         cls,
-        tasks: Sequence[int],
-        items: Sequence[Tuple[int, int, int]],
-        order: Sequence[int],
-        bound: int,
-        workers: int,
+        tasks: WholeNumbers,
+        items: Rows,
+        order: WholeNumbers,
+        bound: SupportsIndex,
+        workers: SupportsIndex,
     ) -> "Core":
         """A core for tasks that hand items to each other, as in `replay_system`."""
         return cls._begun(_plans.memplan_core_begin_system, _system(tasks, items), order, bound, workers)
 
     @classmethod
-    def _begun(cls, begin: Any, work: Tuple[Any, ...], order: Sequence[int], bound: int, workers: int) -> "Core":
+    def _begun(cls, begin: Any, work: Tuple[Any, ...], order: WholeNumbers, bound: Any, workers: Any) -> "Core":
         places, length = numbers("order[{}]", order)
         limits = whole("bound", bound, U64), whole("workers", workers, U32)
         core, fault = cls(), _Fault()
@@ -490,33 +496,33 @@ class Core:
 
     def activate(self) -> int:
         """Activates the next task of the order, where its need fits: its number, or 0."""
-        return _steps.memplan_core_activate(self._at)
+        return int(_steps.memplan_core_activate(self._at))
 
-    def start(self, task: int) -> bool:
+    def start(self, task: SupportsIndex) -> bool:
         """Starts a task, where it may start."""
-        return _steps.memplan_core_start(self._at, whole("task", task, U32)) == 1
+        return bool(_steps.memplan_core_start(self._at, whole("task", task, U32)) == 1)
 
-    def finish(self, task: int) -> bool:
+    def finish(self, task: SupportsIndex) -> bool:
         """Ends a task, where it runs."""
-        return _steps.memplan_core_finish(self._at, whole("task", task, U32)) == 1
+        return bool(_steps.memplan_core_finish(self._at, whole("task", task, U32)) == 1)
 
-    def is_startable(self, task: int) -> bool:
+    def is_startable(self, task: SupportsIndex) -> bool:
         """Whether `start` would answer yes."""
-        return _steps.memplan_core_is_startable(self._at, whole("task", task, U32)) == 1
+        return bool(_steps.memplan_core_is_startable(self._at, whole("task", task, U32)) == 1)
 
-    def is_done(self, task: int) -> bool:
+    def is_done(self, task: SupportsIndex) -> bool:
         """Whether a task is done."""
-        return _steps.memplan_core_is_done(self._at, whole("task", task, U32)) == 1
+        return bool(_steps.memplan_core_is_done(self._at, whole("task", task, U32)) == 1)
 
     @property
     def used(self) -> int:
         """The items that are present, and the needs of the running tasks."""
-        return _steps.memplan_core_used(self._at)
+        return int(_steps.memplan_core_used(self._at))
 
     @property
     def booked(self) -> int:
         """The items that are present, and the needs of the activated tasks that are not done."""
-        return _steps.memplan_core_booked(self._at)
+        return int(_steps.memplan_core_booked(self._at))
 
     def __reduce_ex__(self, protocol: Any) -> NoReturn:
         """What copies and pickles ask for: a copy would be the same place in memory, which both would free."""

@@ -7,13 +7,17 @@ import ctypes
 import reprlib
 from array import array
 from collections.abc import Mapping, Set
+from importlib import import_module
 from operator import index
-from typing import Any, List, NamedTuple, Optional, Sequence, Tuple, Type
+from typing import Any, Dict, List, NamedTuple, Optional, Sequence, Tuple, Type
 
+from ._types import Array
+
+numpy: Any
 try:
-    import numpy
+    numpy = import_module("numpy")
 except ImportError:
-    numpy = None  # type: ignore[assignment]
+    numpy = None
 
 
 class Width(NamedTuple):
@@ -29,7 +33,7 @@ U32 = Width("I", 0, (1 << 32) - 1, "32 bits")
 U64 = Width("Q", 0, (1 << 64) - 1, "64 bits")
 I64 = Width("q", -(1 << 63), (1 << 63) - 1, "64 bits with a sign")
 
-_WIDTHS = {ctypes.c_uint32: U32, ctypes.c_uint64: U64, ctypes.c_int64: I64}
+_WIDTHS: Dict[Any, Width] = {ctypes.c_uint32: U32, ctypes.c_uint64: U64, ctypes.c_int64: I64}
 
 BOOLS: Tuple[type, ...] = (bool,) if numpy is None else (bool, numpy.bool_)
 _ROWS: Tuple[type, ...] = (tuple, list) if numpy is None else (tuple, list, numpy.ndarray)
@@ -65,7 +69,7 @@ def _hint(name: str, number: int) -> str:
     return "; the parent of a root is 0" if number == -1 and name.startswith("parent[") else ""
 
 
-def column(name: str, values: Sequence[int], width: Width) -> memoryview:
+def column(name: str, values: Any, width: Width) -> memoryview:
     """The values as C has them, a copy. ``name`` is that of the value at a place, which stands for its braces: ``extra[{}]``."""
     if numpy is not None and isinstance(values, numpy.ndarray) and _is_column(values, width):
         return memoryview(values.astype(width.letter, order="C"))
@@ -103,9 +107,14 @@ def _listed(name: str, values: Any) -> Sequence[Any]:
     raise TypeError(f"{whole_name}: {reprlib.repr(values)} is no list or array of whole numbers")
 
 
-def columns_of(name: str, rows: Sequence[Sequence[int]], kind: Type[ctypes.Structure]) -> List[memoryview]:
+def fields_of(kind: Any) -> Dict[str, Any]:
+    """The fields of a structure of C, and the type of each."""
+    return dict(kind._fields_)
+
+
+def columns_of(name: str, rows: Any, kind: Type[ctypes.Structure]) -> List[memoryview]:
     """The columns of rows that have a number for each field of a structure."""
-    fields = [(field.rstrip("_"), _WIDTHS[its]) for field, its in kind._fields_]
+    fields = [(field.rstrip("_"), _WIDTHS[its]) for field, its in fields_of(kind).items()]
     wanted = "(" + ", ".join(field for field, _ in fields) + ")"
     if not isinstance(rows, _ROWS):
         raise TypeError(f"{name}: {reprlib.repr(rows)} is no list of tuples {wanted}")
@@ -129,7 +138,7 @@ def structures(kind: Type[ctypes.Structure], count: int, **columns: memoryview) 
     return made
 
 
-def numbers(name: str, values: Sequence[int]) -> Tuple[Any, int]:
+def numbers(name: str, values: Any) -> Tuple[Any, int]:
     """An array of C of numbers of 32 bits, with room for one at least, and how many they are."""
     given = column(name, values, U32)
     made = (ctypes.c_uint32 * max(len(given), 1))()
@@ -141,13 +150,15 @@ def view(made: Any, count: int, name: Optional[str] = None) -> memoryview:
     """The first elements of an array of C where they are: its numbers, or a field of its structures."""
     kind, offset = made._type_, 0
     if name is not None:
-        kind, offset = dict(kind._fields_)[name], getattr(kind, name).offset
+        kind, offset = fields_of(kind)[name], getattr(kind, name).offset
     size, width = ctypes.sizeof(kind), _WIDTHS[kind]
     step = ctypes.sizeof(made._type_) // size
     return memoryview(made).cast("B").cast(width.letter)[offset // size : count * step : step]
 
 
-def back(seen: memoryview) -> Any:
+def back(seen: memoryview) -> Array:
     """What C wrote, for Python. With numpy it is signed, so that ``parent - 1`` is -1 at a root; no number is lost by that, as the library's
     sizes are at most 2^60 together."""
-    return seen.tolist() if numpy is None else numpy.array(seen, "int64")
+    listed: Any = seen.tolist() if numpy is None else seen
+    made: Array = listed if numpy is None else numpy.array(listed, "int64")
+    return made

@@ -12,10 +12,12 @@ from __future__ import annotations
 
 import reprlib
 from itertools import islice
-from typing import Collection, Dict, List, Optional, Sequence, Set, Tuple
+from operator import index
+from typing import Collection, Dict, List, Optional, Sequence, Set, SupportsIndex, Tuple
 
 from . import Core, Refused, plan, replay_system
 from ._numbers import U32, U64, column, whole
+from ._types import WholeNumbers
 
 __all__ = ["MOST_RUNNING", "Admission", "BoundTooLow", "Graph", "GraphRefused"]
 
@@ -106,7 +108,7 @@ class Graph:
     """
 
     def __init__(
-        self, inputs: Sequence[Sequence[int]], sizes: Sequence[int], extras: Sequence[int], kept: Collection[int] = ()
+        self, inputs: Sequence[Collection[int]], sizes: WholeNumbers, extras: WholeNumbers, kept: Collection[int] = ()
     ) -> None:
         self.sizes = column("sizes[{}]", sizes, U64).tolist()
         self.extras = column("extras[{}]", extras, U64).tolist()
@@ -177,7 +179,7 @@ class Graph:
             raise self.told(refusal) from None
         return [int(task) - 1 for task in order]
 
-    def least_bound(self, order: Sequence[int]) -> int:
+    def least_bound(self, order: WholeNumbers) -> int:
         """The peak of an order, which is the least bound along it."""
         tasks, items = self.system()
         try:
@@ -198,7 +200,7 @@ class Graph:
             items += [(0, user + 1, owner) for user in users if owner > count]
         return extras, items
 
-    def with_holders(self, order: Sequence[int]) -> List[int]:
+    def with_holders(self, order: WholeNumbers) -> List[int]:
         """The order for the core: each holder comes right after the last consumer of its result. 0 stands for what is no task, which
         could be the number of a holder."""
         left, count = [len(users) for users in self.consumers], len(self.sizes)
@@ -211,7 +213,7 @@ class Graph:
                     whole.append(self.owners[result])
         return whole
 
-    def told(self, refusal: Refused, order: Sequence[int] = ()) -> GraphRefused:
+    def told(self, refusal: Refused, order: WholeNumbers = ()) -> GraphRefused:
         """What the library says of `system` and `with_holders`, in words of the graph and the order."""
         kind, at = refusal.kind, refusal.at
         task: Optional[int] = None
@@ -233,7 +235,7 @@ class Admission:
     `BoundTooLow` where the order's peak is above the bound; `GraphRefused` where the order is none, or a limit is passed.
     """
 
-    def __init__(self, graph: Graph, bound: int, order: Optional[Sequence[int]] = None) -> None:
+    def __init__(self, graph: Graph, bound: SupportsIndex, order: Optional[WholeNumbers] = None) -> None:
         self._graph = graph
         self._tasks = len(graph.sizes)
         extras, items = graph.system()
@@ -242,7 +244,7 @@ class Admission:
             self._core = Core.of_system(extras, items, graph.with_holders(order), bound, MOST_RUNNING + 1)
         except Refused as refusal:
             if refusal.kind == _BOUND_BELOW_PEAK:
-                raise BoundTooLow(bound, refusal.value) from None
+                raise BoundTooLow(index(bound), refusal.value) from None
             raise graph.told(refusal, order) from None
         self._successors: Dict[int, Set[int]] = {}
         for _, supplier, consumer in items:
@@ -270,7 +272,7 @@ class Admission:
         ready, self._ready = self._ready, []
         return ready
 
-    def start(self, task: int) -> bool:
+    def start(self, task: SupportsIndex) -> bool:
         """Starts a task that is ready; no where as many run as may (`MOST_RUNNING`): then it may start once another has finished."""
         if self._running == MOST_RUNNING:
             return False

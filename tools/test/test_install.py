@@ -1,5 +1,6 @@
 """Installing, removing and packing: of a copy of the repository, by its Makefiles, with a C compiler and no toolchain."""
 
+import importlib.util
 import os
 import re
 import shutil
@@ -7,6 +8,7 @@ import subprocess
 import sys
 import tempfile
 import unittest
+import zipfile
 from pathlib import Path
 from typing import List
 
@@ -57,7 +59,8 @@ class Installing(unittest.TestCase):
         self.run_words(caller)
 
     def check_python(self, folder: Path) -> None:
-        """The package finds the library that was installed with it."""
+        """The package finds the library that was installed with it, and has its types."""
+        self.assertTrue((folder / "memplan/py.typed").exists())
         words = "import sys; sys.path[0] = sys.argv[1]; import memplan; print(memplan.__version__, memplan.plan([0], [7], [2])[1])"
         version = re.search(r'MEMPLAN_VERSION "(.*)"', (ROOT / "c/memplan.h").read_text())[1]
         self.assertEqual(self.run_words(sys.executable, "-Bc", words, str(folder)), f"{version} 9\n")
@@ -164,6 +167,18 @@ class Installing(unittest.TestCase):
             self.check_caller(*flags, f"-Wl,-rpath,{self.folder}/put/lib")
         self.make("dist")
         self.assertEqual(tarball.read_bytes(), first)
+
+    @unittest.skipUnless(sys.version_info >= (3, 11), "Python 3.11")
+    def test_make_and_pip_make_the_same_wheel(self) -> None:
+        self.make("wheel")
+        (wheel,) = (self.top / "dist").glob("*.whl")
+        with zipfile.ZipFile(wheel) as files:
+            self.assertEqual(files.read("memplan/libmemplan.so.1"), (self.top / "c/build/libmemplan.so").read_bytes())
+        if importlib.util.find_spec("pip"):
+            self.run_words(sys.executable, "-m", "pip", "wheel", "--no-index", "--no-deps", "--wheel-dir", f"{self.folder}/again", "./python")
+            self.assertEqual((self.folder / "again" / wheel.name).read_bytes(), wheel.read_bytes())
+        self.make("clean")
+        self.assertFalse((self.top / "dist").exists() or (self.top / "c/build").exists())
 
 
 if __name__ == "__main__":
