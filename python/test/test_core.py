@@ -84,6 +84,9 @@ class Threads(Case):
 class Lives(Case):
     WORDS = "a Core cannot be copied or pickled: it is a place in memory that it frees itself"
 
+    def setUp(self) -> None:
+        gc.collect()  # cores of the tests before, which are not to be counted
+
     def test_no_copy(self) -> None:
         for call in (copy.copy, copy.deepcopy, pickle.dumps):
             self.says(TypeError, self.WORDS, call, core())
