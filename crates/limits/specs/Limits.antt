@@ -2,7 +2,7 @@
 use Rattle.std.specs.Prelude.{ℕ, ◌+◌, ◌*◌, ◌^◌, List, codes, max}
 use Rattle.limits.specs.declared.name.LimitName.{LimitName}
 use Rattle.limits.specs.declared.name.LimitName.TheVariants.{Bytes, Order, Entries, Mindeg, Tasks, Positions, Size, Total, Time, Arcs}
-use Rattle.limits.specs.declared.name.LimitName.TheVariants.{Steps}
+use Rattle.limits.specs.declared.name.LimitName.TheVariants.{Uses, Steps}
 
 -- bytes of one file
 abbrev pub most_bytes : ℕ
@@ -40,6 +40,10 @@ most_time = 2 ^ 40
 abbrev pub most_arcs : ℕ
 most_arcs = 2 * most_tasks + 1
 
+-- readers of all items of a task graph together
+abbrev pub most_uses : ℕ
+most_uses = 10000000
+
 -- explicit zeros that one merge of fronts may add
 abbrev pub most_zeros : ℕ
 most_zeros = 2 ^ 40
@@ -64,6 +68,7 @@ most Size = most_size
 most Total = most_total
 most Time = most_time
 most Arcs = most_arcs
+most Uses = most_uses
 most Steps = most_steps
 
 -- the word for a limit in reports
@@ -78,4 +83,5 @@ word_of Size = codes "size"
 word_of Total = codes "total"
 word_of Time = codes "time"
 word_of Arcs = codes "arcs"
+word_of Uses = codes "uses"
 word_of Steps = codes "steps"

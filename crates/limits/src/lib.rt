@@ -50,6 +50,9 @@ pub const MOST_TIME: u64 = 1_099_511_627_776;
 /// Arcs of a task graph: two for a task, and one.
 pub const MOST_ARCS: u64 = 2 * MOST_TASKS + 1;
 
+/// Readers of all items of a task graph together: a reader counts once for each item that it reads.
+pub const MOST_USES: u64 = 10_000_000;
+
 /// Explicit zeros that one merge of fronts may add: 2^40.
 pub const MOST_ZEROS: u64 = 1_099_511_627_776;
 

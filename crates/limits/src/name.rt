@@ -3,7 +3,7 @@ ghost use Rattle.limits.specs.Limits.{most, word_of};
 
 use crate::{
     MOST_ARCS, MOST_BYTES, MOST_ENTRIES, MOST_MINDEG, MOST_ORDER, MOST_POSITIONS, MOST_SIZE,
-    MOST_STEPS, MOST_TASKS, MOST_TIME, MOST_TOTAL,
+    MOST_STEPS, MOST_TASKS, MOST_TIME, MOST_TOTAL, MOST_USES,
 };
 use std::fmt::{self, Display, Formatter, Write};
 
@@ -20,7 +20,7 @@ pub enum LimitName {
     Mindeg,
     /// Tasks of a workflow or of a task graph, nodes of a tree, or numbers of an order.
     Tasks,
-    /// Positions of a term, or claims of a plan.
+    /// Positions of a term, claims of a plan, or items of a task graph.
     Positions,
     /// One extra or one data size.
     Size,
@@ -30,6 +30,8 @@ pub enum LimitName {
     Time,
     /// Arcs of a task graph.
     Arcs,
+    /// Readers of all items of a task graph together.
+    Uses,
     /// Steps of all staircases of a term.
     Steps,
 }
@@ -50,6 +52,7 @@ impl LimitName {
             LimitName::Total => MOST_TOTAL,
             LimitName::Time => MOST_TIME,
             LimitName::Arcs => MOST_ARCS,
+            LimitName::Uses => MOST_USES,
             LimitName::Steps => MOST_STEPS,
         }
     }
@@ -69,6 +72,7 @@ impl LimitName {
             LimitName::Total => "total",
             LimitName::Time => "time",
             LimitName::Arcs => "arcs",
+            LimitName::Uses => "uses",
             LimitName::Steps => "steps",
         }
     }

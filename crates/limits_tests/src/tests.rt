@@ -13,6 +13,7 @@ const LIMITS: &[(LimitName, u64, &str)] = &[
     (LimitName::Total, 1_152_921_504_606_846_976, "total"),
     (LimitName::Time, 1_099_511_627_776, "time"),
     (LimitName::Arcs, 2_000_001, "arcs"),
+    (LimitName::Uses, 10_000_000, "uses"),
     (LimitName::Steps, 10_000_000, "steps"),
 ];
 

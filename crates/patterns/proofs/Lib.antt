@@ -4,6 +4,4 @@ pub mod NumberLists
 pub mod PartnerLemmas
 pub mod PatternLemmas
 pub mod SameRows
-pub mod SortLemmas
 pub mod Starts
-pub mod TableLemmas

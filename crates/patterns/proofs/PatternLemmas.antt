@@ -9,8 +9,8 @@ use Rattle.std.proofs.lemmas.List.Sorted.{list_any-IsPermutation}
 use Rattle.std.proofs.lemmas.Grind.{get_or_after_one}
 use Rattle.std.proofs.lemmas.Bool.Decides.{nat_tests}
 use Rattle.limits.specs.Limits.{most_order}
+use Rattle.row_table.specs.Rows.{row_at}
 use Rattle.patterns.specs.Pattern.{neighbours_of, has, is_joined, names, are_named, IsPairWithin, IsPatternOf}
-use Rattle.patterns.specs.Table.{Rooms, list_at}
 use Rattle.patterns.specs.Partners.{partner, partners, IsPairBelow}
 use Rattle.lists.proofs.Bools.{eqb_flip as eqb-same}
 
@@ -108,26 +108,26 @@ is_pattern_of order pairs rows few within order_is rising joined = record {
   joined = joined;
 }
 
--- the lists of a table from the second on
-pub neighbours_in : (table : Rooms) (i : ℕ) → neighbours_of (drop 1 table.lists) (suc i) ≡ list_at table (suc i)
-neighbours_in table i = let one : 1 + i ≡ suc i = omega arith in get_or_after_one table.lists i [] ∙ ap (list_at table) one
+-- the rows from the second on
+pub neighbours_in : (rows : List (List ℕ)) (i : ℕ) → neighbours_of (drop 1 rows) (suc i) ≡ row_at rows (suc i)
+neighbours_in rows i = let one : 1 + i ≡ suc i = omega arith in get_or_after_one rows i [] ∙ ap (row_at rows) one
 
-pub sorted_pattern : (order : ℕ) (pairs moved : List (ℕ × ℕ)) (table : Rooms)
+pub sorted_pattern : (order : ℕ) (pairs moved : List (ℕ × ℕ)) (rows : List (List ℕ))
     → (1 ≤ order) × (order ≤ most_order) → All (IsPairWithin order) pairs
-    → IsPermutation pairs moved → length table.lists ≡ order + 1 → ((v : ℕ) → IsStrictlyIncreasing (list_at table v))
-    → ((v x : ℕ) → has (list_at table v) x ≡ has (partners moved v) x) → IsPatternOf order pairs (drop 1 table.lists)
-sorted_pattern order pairs moved table few within is_moved count sorted same =
-    is_pattern_of order pairs (drop 1 table.lists) few within (omega (arith, length-drop 1 table.lists)) rising joined where
-      rising : (v : ℕ) → IsStrictlyIncreasing (neighbours_of (drop 1 table.lists) v)
+    → IsPermutation pairs moved → length rows ≡ order + 1 → ((v : ℕ) → IsStrictlyIncreasing (row_at rows v))
+    → ((v x : ℕ) → has (row_at rows v) x ≡ has (partners moved v) x) → IsPatternOf order pairs (drop 1 rows)
+sorted_pattern order pairs moved rows few within is_moved count sorted same =
+    is_pattern_of order pairs (drop 1 rows) few within (omega (arith, length-drop 1 rows)) rising joined where
+      rising : (v : ℕ) → IsStrictlyIncreasing (neighbours_of (drop 1 rows) v)
       rising zero = λ k lt. absurd (omega arith)
-      rising (suc i) = rw (neighbours_in table i) (sorted (suc i))
+      rising (suc i) = rw (neighbours_in rows i) (sorted (suc i))
 
       moved_named : (a b : ℕ) → are_named moved a b ≡ are_named pairs a b
       moved_named a b = ap (λ (named : Bool). not (eqb a b) && named) (sym (list_any-IsPermutation (names a b) pairs moved is_moved))
 
-      joined : (a b : ℕ) → is_joined (drop 1 table.lists) a b ≡ are_named pairs a b
+      joined : (a b : ℕ) → is_joined (drop 1 rows) a b ≡ are_named pairs a b
       joined zero b =
           sym (false_from_ne_true (are_named pairs zero b)
           (λ named. absurd (let w = named_within order pairs zero b within named in let some = w.0.0 in omega arith)))
       joined (suc i) b =
-          ap (λ (l : List ℕ). has l b) (neighbours_in table i) ∙ same (suc i) b ∙ partners_named moved (suc i) b ∙ moved_named (suc i) b
+          ap (λ (l : List ℕ). has l b) (neighbours_in rows i) ∙ same (suc i) b ∙ partners_named moved (suc i) b ∙ moved_named (suc i) b

@@ -11,7 +11,7 @@ use Rattle.std.proofs.lemmas.List.FromFn.{get_or-map-range_with_len}
 use Rattle.limits.specs.Limits.{most_order}
 use Rattle.patterns.specs.Pattern.{neighbours_of, has, is_joined, are_named, IsPairWithin, IsPatternOf}
 use Rattle.patterns.specs.Plain.{plain_rows}
-use Rattle.patterns.proofs.NumberLists.{has_at, place_of, rises}
+use Rattle.row_table.proofs.NumberLists.{has_at, place_of, rises}
 use Rattle.patterns.proofs.PatternLemmas.{named_within, is_pattern_of}
 use Rattle.lists.proofs.Lists.{range_rising, rising-tail}
 

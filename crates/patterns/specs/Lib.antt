@@ -2,4 +2,3 @@ pub mod Columns
 pub mod Partners
 pub mod Pattern
 pub mod Plain
-pub mod Table

@@ -3,15 +3,12 @@ use Rattle.std.specs.Prelude.{◌≡◌, ◌==◌, ℕ, zero, suc, ◌≤◌, Bo
 use Rattle.std.specs.List.{list_any}
 use Rattle.std.specs.List.Sorted.{IsStrictlyIncreasing}
 use Rattle.limits.specs.Limits.{most_order}
+pub use Rattle.row_table.specs.Rows.{has}
 
 -- a pattern as its rows, one for each vertex: row v is the list of the neighbours of v; 0 is no vertex, and has none
 abbrev pub neighbours_of : List (List ℕ) → ℕ → List ℕ
 neighbours_of rows zero = []
 neighbours_of rows (suc i) = slice_index_or rows i []
-
--- whether a number is in a list
-abbrev pub has : List ℕ → ℕ → Bool
-has xs y = list_any (λ x. x == y) xs
 
 -- the graph as a test: whether b is a neighbour of a
 abbrev pub is_joined : List (List ℕ) → ℕ → ℕ → Bool

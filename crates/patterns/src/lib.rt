@@ -14,8 +14,6 @@ mod groups;
 pub mod laws;
 mod pairs;
 mod pattern;
-mod sorting;
-mod table;
 
 pub use columns::{ColumnsRefusal, pattern_of_columns};
 pub use pattern::Pattern;

@@ -6,8 +6,8 @@ ghost use Rattle.patterns.specs.Pattern.{IsPattern, IsPatternOf, IsPairWithin, n
 
 use crate::NoMemory;
 use crate::groups::grouped;
-use crate::pairs::{partner_counts, partner_lists};
-use crate::table::ListTable;
+use crate::pairs::{partner_counts, partner_rows};
+use row_table::RowTable;
 use std::alloc::Global;
 use std::marker::Model;
 
@@ -15,16 +15,16 @@ use std::marker::Model;
 /// order.
 #[derive(Drop)]
 pub struct Pattern {
-    // a list for each number up to the order; that of 0 is not read
-    table: ListTable,
+    // a row for each number up to the order; that of 0 is not read
+    table: RowTable,
 }
 
 impl Model for Pattern {
     ghost Value = { List (List ℕ) };
 
-    ghost view = { λ p. drop 1 p.table.lists };
+    ghost view = { λ p. drop 1 p.table };
 
-    ghost invariant = { λ p. IsPattern (drop 1 p.table.lists) };
+    ghost invariant = { λ p. IsPattern (drop 1 p.table) };
 }
 
 impl Pattern {
@@ -40,7 +40,7 @@ impl Pattern {
         ensures value { result ≡ length self.now }
         ensures pattern { IsPattern self.now }
     {
-        (self.table.count() - 1) as u32
+        (self.table.len() - 1) as u32
     }
 
     /// The neighbours of a vertex, in rising order.
@@ -48,7 +48,7 @@ impl Pattern {
         requires { (1 ≤ v) × (v ≤ length self.now) }
         ensures { result.now ≡ neighbours_of self.now v }
     {
-        self.table.list(v)
+        self.table.row(v)
     }
 
     /// The pattern of so many vertices that joins these pairs. Repeated pairs count once, and a pair of a vertex with itself joins
@@ -66,8 +66,10 @@ impl Pattern {
     {
         let groups = grouped(alloc, pairs)?;
         let counts = partner_counts(alloc, order as usize + 1, &groups)?;
-        let mut table = partner_lists(alloc, &counts, groups)?;
-        table.sort_lists();
-        Ok(Pattern { table })
+        let mut builder = partner_rows(alloc, &counts, groups)?;
+        builder.sort_rows();
+        Ok(Pattern {
+            table: builder.into_table(),
+        })
     }
 }

@@ -1,4 +1,5 @@
-use row_table::RowTable;
+use row_table::{NoMemory, RowBuilder, RowTable};
+use std::alloc::Global;
 use std::process::Abort;
 use std::test::Fail;
 
@@ -39,5 +40,32 @@ fn a_row_is_written_alone(rt: HostRuntime) -> Result<(), Fail> {
         assert!(rt; k < table.len());
         assert_eq!(rt; table.row(k as u32), *row);
     }
+    Ok(())
+}
+
+// Rows with room for 3, 2, 0 and 4 numbers, of which the second and the last one do not fill theirs.
+fn grown_rows(alloc: Global) -> Result<RowBuilder, NoMemory> {
+    let mut builder = RowBuilder::new(alloc, &[3, 2, 0, 4])?;
+    builder.push(3, 7);
+    builder.push(0, 9);
+    builder.push(3, 2);
+    builder.push(0, 4);
+    builder.push(3, 7);
+    builder.push(0, 9);
+    Ok(builder)
+}
+
+#[test]
+fn rows_that_grow(rt: HostRuntime) -> Result<(), Fail> {
+    let table = grown_rows(rt.alloc())?.into_table();
+    check_rows(&rt, &table, &[&[9, 4, 9], &[], &[], &[7, 2, 7]]);
+    Ok(())
+}
+
+#[test]
+fn rows_in_order_each_number_once(rt: HostRuntime) -> Result<(), Fail> {
+    let mut builder = grown_rows(rt.alloc())?;
+    builder.sort_rows();
+    check_rows(&rt, &builder.into_table(), &[&[4, 9], &[], &[], &[2, 7]]);
     Ok(())
 }

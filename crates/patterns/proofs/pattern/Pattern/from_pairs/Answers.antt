@@ -22,8 +22,8 @@ partner_counts-requires-clause-below c =
     (All-permutation P c.args.pairs.items (pairs_in c.in_ok-groups.groups.items) c.in_ok-groups.ensures
     (below_from_within c.args.order c.args.pairs.items c.requires.within))
 
-pub partner_lists-requires-clause-below : goal.partner_lists-requires-clause-below
-partner_lists-requires-clause-below c =
+pub partner_rows-requires-clause-below : goal.partner_rows-requires-clause-below
+partner_rows-requires-clause-below c =
     let count : length c.deref-2.result.now ≡ c.args.order + 1 = ap length c.deref-2.ensures.value ∙ c.in_ok-counts.ensures.len in
     let P = IsPairBelow (c.args.order + 1) in
     subst (λ (n : ℕ). All (IsPairBelow n) (pairs_in c.in_ok-groups.groups.items)) (sym count)
@@ -33,17 +33,19 @@ partner_lists-requires-clause-below c =
 pub invariant_of-result : goal.invariant_of-result
 invariant_of-result c =
     let count : length c.deref-2.result.now ≡ c.args.order + 1 = ap length c.deref-2.ensures.value ∙ c.in_ok-counts.ensures.len in
-    let e = c.sort_lists.ensures in
+    let e = c.sort_rows.ensures in
+    rw c.into_table.ensures
     (sorted_pattern c.args.order c.args.pairs.items
-    (pairs_in c.in_ok-groups.groups.items) c.sort_lists.new.self c.requires.order c.requires.within c.in_ok-groups.ensures
-    (e.count ∙ c.in_ok-table.ensures.count ∙ count) e.rising
-    (λ v x. e.same v x ∙ ap (λ (l : List ℕ). has l x) (c.in_ok-table.ensures.each v))).pattern
+    (pairs_in c.in_ok-groups.groups.items) c.sort_rows.new.self.rows c.requires.order c.requires.within c.in_ok-groups.ensures
+    (e.count ∙ c.in_ok-builder.ensures.count ∙ count) e.rising
+    (λ v x. e.same v x ∙ ap (λ (l : List ℕ). has l x) (c.in_ok-builder.ensures.each v))).pattern
 
 pub returns : goal.returns
 returns c =
     let count : length c.deref-2.result.now ≡ c.args.order + 1 = ap length c.deref-2.ensures.value ∙ c.in_ok-counts.ensures.len in
-    let e = c.sort_lists.ensures in
-    sorted_pattern c.args.order c.args.pairs.items
-    (pairs_in c.in_ok-groups.groups.items) c.sort_lists.new.self c.requires.order c.requires.within c.in_ok-groups.ensures
-    (e.count ∙ c.in_ok-table.ensures.count ∙ count) e.rising
-    (λ v x. e.same v x ∙ ap (λ (l : List ℕ). has l x) (c.in_ok-table.ensures.each v))
+    let e = c.sort_rows.ensures in
+    rw c.into_table.ensures
+    (sorted_pattern c.args.order c.args.pairs.items
+    (pairs_in c.in_ok-groups.groups.items) c.sort_rows.new.self.rows c.requires.order c.requires.within c.in_ok-groups.ensures
+    (e.count ∙ c.in_ok-builder.ensures.count ∙ count) e.rising
+    (λ v x. e.same v x ∙ ap (λ (l : List ℕ). has l x) (c.in_ok-builder.ensures.each v)))
