@@ -25,11 +25,11 @@ use Rattle.file_frame.proofs.TestLemmas.{passes}
 -- ---- tests that all hold
 
 -- what the tests of a task line say of its task
-record IsTaskOn (total : ℕ) (task : Task) : Type 0 where
+pub record IsTaskOn (total : ℕ) (task : Task) : Type 0 where
   pub within : IsTaskWithin task
   pub sums : total + extra_size task ≤ most_total
 
-task_passed : (total : ℕ) (row : Row) → first_failure (task_tests total row) ≡ None → IsTaskOn total (task_on_row row)
+pub task_passed : (total : ℕ) (row : Row) → first_failure (task_tests total row) ≡ None → IsTaskOn total (task_on_row row)
 task_passed total row none =
     let task = task_on_row row in
     let one = passes _ _ _ none in

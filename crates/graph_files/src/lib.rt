@@ -1,6 +1,7 @@
 //! Graph files: their reader.
 //!
-//! The definitions stand in specs/: `GraphFile`, what a file reads as and what refuses it; the laws in [`laws`].
+//! The definitions stand in specs/: `GraphFile`, what a file reads as and what refuses it; the laws in [`laws`]. The crate
+//! `shared_graph_files` reads version 2, whose tasks stand in the same lines: so their tests and the functions that make them are public.
 #![tactic(auto)]
 
 mod fields;
@@ -13,6 +14,7 @@ mod stage;
 mod stated;
 
 pub use kind::GraphKind;
+pub use lines::{task_count_on, task_on};
 pub use reading::read_graph;
 use std::alloc::AllocError;
 

@@ -14,3 +14,9 @@ pub mod Faults
 pub mod GivenSystems
 pub mod UseArcs
 pub mod PeakSteps
+pub mod OneReaderItems
+pub mod OneReader
+pub mod OneByOne
+pub mod Endings
+pub mod PeakBounds
+pub mod SameSystems

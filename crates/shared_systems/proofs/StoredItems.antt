@@ -29,7 +29,7 @@ abbrev pub begin : ℕ → List Entry → ℕ → ℕ
 begin start xs zero = start
 begin start xs (suc i) = end_at xs i
 
-begin-tail : (x : Entry) (xs : List Entry) (i : ℕ) → begin x.end xs i ≡ end_at (x ∷ xs) i
+pub begin-tail : (x : Entry) (xs : List Entry) (i : ℕ) → begin x.end xs i ≡ end_at (x ∷ xs) i
 begin-tail x xs zero = refl
 begin-tail x xs (suc i) = refl
 
@@ -43,7 +43,7 @@ at start (x ∷ xs) readers zero lt = refl
 at start (x ∷ xs) readers (suc i) lt =
     at x.end xs readers i (omega arith) ∙ ap (λ (k : ℕ). item_stored (get_or xs i no_entry) k readers) (begin-tail x xs i)
 
-begin-zero : (xs : List Entry) (i : ℕ) → begin 0 xs i ≡ start_at xs i
+pub begin-zero : (xs : List Entry) (i : ℕ) → begin 0 xs i ≡ start_at xs i
 begin-zero xs zero = refl
 begin-zero xs (suc i) = refl
 

@@ -3,15 +3,11 @@ use Rattle.std.specs.Prelude.{◌≡◌, ℕ, ◌+◌, ◌≤◌, false, unwrap_
 use Rattle.std.specs.List.{sum_by, flat_map}
 use Rattle.std.specs.List.Sorted.{IsStrictlyIncreasing}
 use Rattle.std.specs.Option.{ForSome}
-use Rattle.limits.specs.Limits.{most_tasks, most_positions, most_size, most_total}
+use Rattle.limits.specs.Limits.{most_tasks, most_positions, most_size, most_total, most_uses}
 use Rattle.mp_system.specs.System.{IsTaskWithin, extra_size, is_named}
 use Rattle.graphs.specs.declared.arc.Arc.{Arc}
 use Rattle.graphs.specs.Graph.{IsAmong, CanBeOrdered, arc_between}
 use Rattle.shared_systems.specs.Shared.{SharedTaskSystem, SharedItem, HasTask, HasOwnShare}
-
--- readers of all items together; it is to stand with the other limits, in the crate `limits`
-abbrev pub most_uses : ℕ
-most_uses = 10000000
 
 abbrev pub shared_size : SharedItem → ℕ
 shared_size x = x.size

@@ -4,7 +4,7 @@ use Rattle.std.specs.Prelude.{◌≡◌, ℕ, ◌-◌, ◌+◌, ◌<◌, ◌≤�
 use Rattle.std.specs.List.{sum_by}
 use Rattle.std.specs.List.Sorted.{IsStrictlyIncreasing}
 use Rattle.std.specs.Option.{ForSome}
-use Rattle.limits.specs.Limits.{most_tasks, most_positions, most_size, most_total}
+use Rattle.limits.specs.Limits.{most_tasks, most_positions, most_size, most_total, most_uses}
 use Rattle.lists.specs.Numbers.{Each, IsFirstWithout}
 use Rattle.mp_system.specs.System.{IsTaskWithin, extra_size, is_named}
 use Rattle.mp_system.specs.declared.given.GivenTask.{GivenTask}
@@ -12,7 +12,7 @@ use Rattle.mp_system.specs.declared.judged.TaskTest.{TaskTest}
 use Rattle.mp_system.specs.Judged.{TaskPasses, TasksPassBefore, TasksPass}
 use Rattle.graphs.specs.Graph.{IsAmong, CanBeOrdered}
 use Rattle.shared_systems.specs.Shared.{SharedTaskSystem, SharedItem, HasOwnShare, shared_item_at}
-use Rattle.shared_systems.specs.Bounds.{IsSharedItemWithin, most_uses, reader_count, shared_size, use_arcs}
+use Rattle.shared_systems.specs.Bounds.{IsSharedItemWithin, reader_count, shared_size, use_arcs}
 use Rattle.shared_systems.specs.Given.{items_given, count_given, shared_system_given}
 use Rattle.shared_systems.specs.declared.given.GivenSharedItem.{GivenSharedItem}
 use Rattle.shared_systems.specs.declared.judged.SharedItemTest.{SharedItemTest}

@@ -1,11 +1,14 @@
 pub mod Shared
 pub mod SharedMemory
 pub mod SharedTraversal
+pub mod Freed
 pub mod Collected
 pub mod Woven
 pub mod Places
+pub mod OneReader
 pub mod Bounds
 pub mod Given
+pub mod Growing
 pub mod Judged
 pub mod Stored
 pub mod Samples

@@ -1,13 +1,15 @@
 -- No public clause names this.
--- Worked examples: a result that two tasks read, and an input that three read.
+-- Worked examples: a result that two tasks read, an input that three read, and items with one reader each.
 use Rattle.std.specs.Prelude.{◌≡◌, ℕ, Option, Some, None, List, [], ◌∷◌, map, refl}
 use Rattle.mp_system.specs.declared.system.Task.{Task}
 use Rattle.mp_system.specs.declared.system.Item.{Item}
+use Rattle.mp_system.specs.System.{TaskSystem}
 use Rattle.mp_system.specs.Memory.{state_memory, stands_in, peak_of}
 use Rattle.shared_systems.specs.Shared.{SharedTaskSystem, SharedItem, shared_need_of}
 use Rattle.shared_systems.specs.SharedMemory.{shared_memory, shared_peak_of}
 use Rattle.shared_systems.specs.Collected.{collected, dropped, wait_count}
 use Rattle.shared_systems.specs.Woven.{woven}
+use Rattle.shared_systems.specs.OneReader.{shared_of, unshared}
 
 abbrev pub task : ℕ → ℕ → Task
 task extra share = record { extra = extra; share = share; time = 1 }
@@ -95,3 +97,29 @@ index_peak = refl
 
 pub index_woven : woven index (3 ∷ 1 ∷ 2 ∷ []) ≡ 3 ∷ 1 ∷ 2 ∷ 4 ∷ []
 index_woven = refl
+
+-- an input, which task 1 alone reads, what it makes for task 2, which takes 3 of it over, and a result that stays
+abbrev pub chain : TaskSystem
+chain = record {
+  tasks = task 0 0 ∷ task 2 3 ∷ [];
+  items = item 2 None (Some 1) ∷ item 5 (Some 1) (Some 2) ∷ item 4 (Some 2) None ∷ [];
+}
+
+-- the one consumer is the only reader, and an item without a consumer has none
+pub chain_shared :
+    (shared_of chain).items ≡ shared_item 2 None (1 ∷ []) ∷ shared_item 5 (Some 1) (2 ∷ []) ∷ shared_item 4 (Some 2) [] ∷ []
+chain_shared = refl
+
+pub chain_needs : map (shared_need_of (shared_of chain)) (1 ∷ 2 ∷ []) ≡ 5 ∷ 3 ∷ []
+chain_needs = refl
+
+-- 5 is there, and task 2 needs 3
+pub chain_peak : shared_peak_of (shared_of chain) (1 ∷ 2 ∷ []) ≡ 8
+chain_peak = refl
+
+pub chain_back : unshared (shared_of chain) ≡ chain
+chain_back = refl
+
+-- an item that two tasks read would be left without a consumer
+pub diamond_unshared : (unshared diamond).items ≡ item 5 (Some 1) None ∷ item 1 (Some 2) (Some 4) ∷ item 3 (Some 3) (Some 4) ∷ item 2 (Some 4) None ∷ []
+diamond_unshared = refl

@@ -4,19 +4,20 @@ ghost use Rattle.mp_system.specs.Given.{end_given};
 ghost use Rattle.shared_systems.specs.Shared.{SharedItem, shared_item_at};
 ghost use Rattle.shared_systems.specs.Given.{items_given, count_given};
 ghost use Rattle.shared_systems.specs.Stored as stored;
-ghost use Rattle.shared_systems.specs.Stored.{start_at, end_at};
+ghost use Rattle.shared_systems.specs.Stored.{start_at, end_at, stored_items, AreStored};
 
 use crate::NoMemory;
 use crate::given::GivenSharedItem;
 use std::alloc::Global;
 use std::marker::Model;
 
-// An item, with the place in the list of all readers where its own end; they begin where those of the item before end.
+/// An item, with the place in the list of all readers where its own end; they begin where those of the item before end. The number 0
+/// stands for no producer.
 #[derive(Clone, Copy)]
-struct Entry {
-    size: u64,
-    from: u32,
-    end: u32,
+pub(crate) struct Entry {
+    pub(crate) size: u64,
+    pub(crate) from: u32,
+    pub(crate) end: u32,
 }
 
 /// Items with their readers, which stand in one list.
@@ -90,6 +91,14 @@ impl SharedItems {
         let entries = entries_of(alloc, items)?;
         let readers = Vec::from_slice(alloc, readers)?;
         Ok(SharedItems { entries, readers })
+    }
+
+    // The items of these entries, whose readers stand in this list.
+    pub(crate) fn of_entries(entries: Vec<Entry>, readers: Vec<u32>) -> SharedItems
+        requires { AreStored entries.items readers.items }
+        ensures { result ≡ stored_items 0 entries.items readers.items }
+    {
+        SharedItems { entries, readers }
     }
 
     /// How many items there are.

@@ -17,12 +17,9 @@ use crate::passing::{first_item_fault, first_task_fault};
 use crate::shares::first_unfit_share;
 use crate::system::SharedSystem;
 use crate::uses::first_unordered_task;
-use limits::{MOST_POSITIONS, MOST_TASKS, MOST_TOTAL};
+use limits::{MOST_POSITIONS, MOST_TASKS, MOST_TOTAL, MOST_USES};
 use mp_system::{GivenTask, Task, TaskTest};
 use std::alloc::Global;
-
-/// Readers of all items together. It is to stand with the other limits, in the crate `limits`.
-pub const MOST_USES: u64 = 10_000_000;
 
 /// A test that each item of a shared system passes by itself.
 #[derive(Clone, Copy, Debug, PartialEq, Eq)]

@@ -1,15 +1,17 @@
 //! Laws over the definitions: each contract is a law, and each body is empty.
-ghost use Rattle.std.specs.Prelude.{◌≡◌, ℕ, ◌+◌, ◌<◌, ◌≤◌, ◌↔◌, Bool, true, List, None, count_by, length};
+ghost use Rattle.std.specs.Prelude.{◌≡◌, ℕ, ◌+◌, ◌<◌, ◌≤◌, ◌↔◌, Bool, true, List, All, None, count_by, length};
 ghost use Rattle.std.specs.List.{sum_by};
-ghost use Rattle.mp_system.specs.System.{IsSystem, IsTask, need_of};
+ghost use Rattle.mp_system.specs.System.{TaskSystem, IsSystem, IsTask, need_of};
 ghost use Rattle.mp_system.specs.Memory.{state_memory, is_ready, peak_of};
-ghost use Rattle.mp_system.specs.Traversal.{IsTraversal, IsLeast};
+ghost use Rattle.mp_system.specs.Traversal.{IsTraversal, IsLeast, first_fault};
 ghost use Rattle.shared_systems.specs.Shared.{SharedTaskSystem, HasTask, shared_need_of};
-ghost use Rattle.shared_systems.specs.SharedMemory.{shared_memory, shared_peak_of};
+ghost use Rattle.shared_systems.specs.SharedMemory.{shared_memory, shared_peak_of, has_inputs};
 ghost use Rattle.shared_systems.specs.SharedTraversal.{IsSharedTraversal, IsLeastShared, first_shared_fault};
 ghost use Rattle.shared_systems.specs.Collected.{collected, dropped, is_shared, wait_count, HasRoom};
 ghost use Rattle.shared_systems.specs.Woven.{woven};
 ghost use Rattle.shared_systems.specs.Bounds.{IsSharedSystem};
+ghost use Rattle.shared_systems.specs.OneReader.{shared_of, unshared, HasOneReader};
+ghost use Rattle.graphs.specs.Graph.{TaskGraph, IsGraph, own_system};
 
 use mp_system::laws::{ready_law, traversal_law};
 
@@ -82,3 +84,31 @@ pub fn least_law()
     dropping_law();
     weaving_law();
 }
+
+/// The system of a task graph, and each system of which all tasks can be ordered, as a traversal shows, is a shared system within the
+/// limits: the one consumer of an item is its only reader.
+pub fn one_reader_system_law()
+    ensures graph { (graph : TaskGraph) → IsGraph graph → IsSharedSystem (shared_of (own_system graph)) }
+    ensures system { (system : TaskSystem) (order : List ℕ) → IsSystem system → IsTraversal system order → IsSharedSystem (shared_of system) }
+{}
+
+/// What the definitions say of a system as a shared system is what they say of it as it is: the memory of a state, the need of a task, who
+/// is ready, peaks, traversals, first faults and least peaks. With its collectors it is as it was.
+pub fn one_reader_law()
+    ensures memory { (system : TaskSystem) (done : ℕ → Bool) → shared_memory (shared_of system) done ≡ state_memory system done }
+    ensures need { (system : TaskSystem) (v : ℕ) → shared_need_of (shared_of system) v ≡ need_of system v }
+    ensures ready { (system : TaskSystem) (done : ℕ → Bool) (v : ℕ) → has_inputs (shared_of system) done v ≡ is_ready system done v }
+    ensures peak { (system : TaskSystem) (order : List ℕ) → shared_peak_of (shared_of system) order ≡ peak_of system order }
+    ensures traversal { (system : TaskSystem) (order : List ℕ) → IsSharedTraversal (shared_of system) order ↔ IsTraversal system order }
+    ensures fault { (system : TaskSystem) (order : List ℕ) → first_shared_fault (shared_of system) order ≡ first_fault system order }
+    ensures least { (system : TaskSystem) (peak : ℕ) → IsLeastShared (shared_of system) peak ↔ IsLeast system peak }
+    ensures collected { (system : TaskSystem) → collected (shared_of system) ≡ system }
+{}
+
+/// A shared system in which no two tasks read an item is one of these. Each system is got back from its shared system, and one within the
+/// limits stays so.
+pub fn unshared_law()
+    ensures shared { (system : SharedTaskSystem) → All HasOneReader system.items → shared_of (unshared system) ≡ system }
+    ensures back { (system : TaskSystem) → unshared (shared_of system) ≡ system }
+    ensures within { (system : SharedTaskSystem) → IsSharedSystem system → IsSystem (unshared system) }
+{}

@@ -1,16 +1,19 @@
 //! Systems in which an item may have any number of readers: an item is held from the end of its producer to the end of the last of them.
 //!
 //! The definitions stand in specs/: `Shared`, `SharedMemory`, `SharedTraversal`; `Bounds`, what a system keeps to; `Given`, the system that a
-//! caller's arrays give, and `Judged`, what they are refused with; `Collected` and `Woven`, the system of `mp_system` that stands for it, in
-//! which each item has at most one consumer. The laws stand in [`laws`].
+//! caller's arrays give, and `Judged`, what they are refused with; `Growing`, items that are made one by one; `OneReader`, the systems of
+//! `mp_system` as shared systems; `Collected` and `Woven`, the system of `mp_system` that stands for one, in which each item has at most one
+//! consumer. The laws stand in [`laws`].
 #![tactic(auto)]
 
 mod collecting;
 mod dropping;
 mod given;
+mod growing;
 mod items;
 mod judged;
 pub mod laws;
+mod one_reader;
 mod passing;
 mod peak;
 mod places;
@@ -21,10 +24,10 @@ mod uses;
 mod weaving;
 
 pub use given::GivenSharedItem;
+pub use growing::GrowingItems;
 pub use items::SharedItems;
 pub use judged::{
-    MOST_USES, SharedFault, SharedItemTest, SharedRefusal, shared_system_of,
-    shared_system_of_arrays,
+    SharedFault, SharedItemTest, SharedRefusal, shared_system_of, shared_system_of_arrays,
 };
 use std::alloc::AllocError;
 pub use system::SharedSystem;

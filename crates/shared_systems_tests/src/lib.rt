@@ -2,4 +2,6 @@
 #![tactic(auto)]
 
 #[cfg(test)]
+mod one_reader_tests;
+#[cfg(test)]
 mod tests;
