@@ -1,0 +1,13 @@
+pub mod ItemLemmas
+pub mod TakenReaders
+pub mod ItemLines
+pub mod ReaderLaws
+pub mod FormLemmas
+pub mod StatedLemmas
+pub mod ReadLemmas
+pub mod FileLemmas
+pub mod EitherLemmas
+pub mod PrintedRows
+pub mod PrintedLemmas
+pub mod PrintedTexts
+pub mod LengthLemmas
