@@ -1,0 +1,13 @@
+pub mod Machine
+pub mod Safe
+pub mod Changes
+pub mod Runs
+pub mod Schedule
+pub mod Running
+pub mod Bits
+pub mod Clock
+pub mod Tables
+pub mod Consumers
+pub mod Run
+pub mod Refusal
+pub mod Samples

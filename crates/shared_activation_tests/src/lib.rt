@@ -1,0 +1,5 @@
+//! Tests of `shared_activation`, over its public functions.
+#![tactic(auto)]
+
+#[cfg(test)]
+mod tests;

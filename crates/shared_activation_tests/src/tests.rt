@@ -1,0 +1,4 @@
+mod plain;
+mod random;
+mod rows;
+mod systems;
