@@ -8,15 +8,20 @@ use Rattle.sp_terms.specs.declared.position.Position.{Position}
 use Rattle.sp_terms.specs.Values.{term_of}
 use Rattle.trees.specs.declared.node.Node.{Node}
 use Rattle.judging.specs.Files.{Answer, HasValue, IsMatrixFile, HasOrdering, IsOrderOf, IsOrderedMatrix, IsOrderFrom}
-use Rattle.judging.specs.Files.{IsMatrixTree, IsTreeOf, IsSystemOf, IsSystemWithTerm, IsFirstRefusal, AreAccepted}
+use Rattle.judging.specs.Files.{IsMatrixTree, IsTreeOf, IsSystemOf, IsSystemWithTerm, IsTaskSystemOf, IsFirstRefusal, AreAccepted}
 use Rattle.judging.specs.Told.{AreTold, HasFailed}
-use Rattle.judging.specs.Judged.{IsStop, IsRefusedOrder, IsMatrixRead, IsProblemOf, IsOrderRead, IsOrderedOf, IsRefusedSource, order_tasks}
+use Rattle.judging.specs.Judged.{IsStop, IsRefusedOrder, IsMatrixRead, IsProblemOf, IsOrderRead, IsBeforeOrder, IsRefusedSource, order_tasks}
+use Rattle.judging.specs.Judged.{AreTasksOf, system_of_tasks}
 use Rattle.judging.specs.declared.inputs.Order.{Order}
+use Rattle.judging.specs.declared.inputs.Tasks.{Tasks}
+use Rattle.judging.specs.declared.inputs.Tasks.TheVariants as tasks
+use Rattle.shared_systems.specs.Shared.{SharedTaskSystem}
 use Rattle.judging.specs.declared.inputs.OrderedPattern.{OrderedPattern}
 use Rattle.symbolic.specs.FrontTree.{IsFrontTree}
 use Rattle.requests.specs.Request.{Ordering, natural, min_degree, perm_named, OrderedMatrix, Matrix, TreeInput, tree_named, matrix_named}
 use Rattle.requests.specs.Request.{Input, tree_input, workflow_named, NamedFile, OrderSource, order_named, plan_named, matrix_file}
 use Rattle.requests.specs.Request.{ordering_files, ordered_matrix_files, matrix_files, tree_input_files, input_files, source_file}
+use Rattle.requests.specs.Request.{TaskSource, input_tasks, graph_tasks, task_files}
 use Rattle.judging.specs.Pages.{answer_of}
 use Rattle.judging.specs.declared.stop.Stop.{Stop}
 use Rattle.judging.specs.declared.stop.Stop.TheVariants as stops
@@ -149,6 +154,29 @@ pub problem_accepted : (input : Input) (texts : List (List ℕ)) (origin : Origi
     → IsProblemOf input texts origin → AreAccepted (input_files input) [] texts
 problem_accepted input texts origin is = input_accepted input texts (system_of origin) (problem_has_system input texts origin is)
 
+-- ---- what tasks are read as
+
+pub tasks_have_system : (source : TaskSource) (texts : List (List ℕ)) (read : Tasks)
+    → AreTasksOf source texts read → IsTaskSystemOf source texts (system_of_tasks read)
+tasks_have_system (input_tasks input) texts (tasks.Problem problem) is =
+    (system_of problem, problem_has_system input texts problem is, refl)
+tasks_have_system (input_tasks input) texts (tasks.Graph system) is = absurd is
+tasks_have_system (graph_tasks name) [] read is = absurd is
+tasks_have_system (graph_tasks name) (text ∷ []) (tasks.Problem problem) is = absurd is
+tasks_have_system (graph_tasks name) (text ∷ []) (tasks.Graph system) is = is
+tasks_have_system (graph_tasks name) (text ∷ more ∷ texts) read is = absurd is
+
+pub system_accepted : (source : TaskSource) (texts : List (List ℕ)) (system : SharedTaskSystem)
+    → IsTaskSystemOf source texts system → AreAccepted (task_files source) [] texts
+system_accepted (input_tasks input) texts shared (system, is, same) = input_accepted input texts system is
+system_accepted (graph_tasks name) [] shared is = absurd is
+system_accepted (graph_tasks name) (text ∷ []) shared is = ((shared, is), tt)
+system_accepted (graph_tasks name) (text ∷ more ∷ texts) shared is = absurd is
+
+pub tasks_accepted : (source : TaskSource) (texts : List (List ℕ)) (read : Tasks)
+    → AreTasksOf source texts read → AreAccepted (task_files source) [] texts
+tasks_accepted source texts read is = system_accepted source texts (system_of_tasks read) (tasks_have_system source texts read is)
+
 -- ---- and the order of a source
 
 pub source_refused : (source : OrderSource) (earlier texts : List (List ℕ)) (answer : Answer) → IsRefusedSource source texts answer
@@ -163,29 +191,31 @@ source_accepted (order_named name) earlier text numbers is = (numbers, is)
 source_accepted (plan_named name) earlier text numbers (plan, is, same) = (plan, is)
 
 -- both
-module _ (told : List ℕ → Option (List ℕ)) (input : Input) (source : OrderSource) (problem : Origin) (order : Order)
-    (is_problem : (texts : List (List ℕ)) → AreTold told (input_files input) texts → IsProblemOf input texts problem)
+module _ {A : Type 0} (told : List ℕ → Option (List ℕ)) (files : List NamedFile) (takes : List (List ℕ) → A → Type 0)
+    (source : OrderSource) (value : A) (order : Order)
+    (accepted : (texts : List (List ℕ)) → takes texts value → AreAccepted files [] texts)
+    (is_value : (texts : List (List ℕ)) → AreTold told files texts → takes texts value)
     (is_order : (texts : List (List ℕ)) → AreTold told (source_file source ∷ []) texts → IsOrderRead source texts order) where
-  of_texts : (mine two : List (List ℕ)) → AreTold told (input_files input) mine
+  of_texts : (mine two : List (List ℕ)) → AreTold told files mine
       → AreTold told (source_file source ∷ []) two → IsOrderRead source two order
-      → IsOrderedOf input source (mine ++ two) (record { problem = problem; order = order })
+      → IsBeforeOrder files takes source (mine ++ two) value order
   of_texts mine [] are more read = absurd more
   of_texts mine (text ∷ more ∷ two) are is read = absurd read
   of_texts mine (text ∷ []) are is read = record {
     mine = mine;
     text = text;
     texts_are = refl;
-    is_problem = is_problem mine are;
+    is_value = is_value mine are;
     is_order = read;
     accepted =
-        accepted_after told (input_files input) (source_file source ∷ []) [] mine
-        (text ∷ []) are (problem_accepted input mine problem (is_problem mine are))
+        accepted_after told files (source_file source ∷ []) [] mine
+        (text ∷ []) are (accepted mine (is_value mine are))
         (source_accepted source mine text (order_tasks order) read.0, tt);
   }
 
-  pub ordered : (texts : List (List ℕ)) → AreTold told (input_files input ++ source_file source ∷ []) texts
-      → IsOrderedOf input source texts (record { problem = problem; order = order })
+  pub ordered : (texts : List (List ℕ)) → AreTold told (files ++ source_file source ∷ []) texts
+      → IsBeforeOrder files takes source texts value order
   ordered =
-      over_both told (input_files input) (source_file source ∷ [])
-      (λ texts. IsOrderedOf input source texts (record { problem = problem; order = order }))
+      over_both told files (source_file source ∷ [])
+      (λ texts. IsBeforeOrder files takes source texts value order)
       (λ mine two are more. of_texts mine two are more (is_order two more))

@@ -27,8 +27,12 @@ use Rattle.symbolic.specs.FrontTree.{IsFrontTree}
 use Rattle.graphs.specs.Graph.{TaskGraph}
 use Rattle.graph_files.specs.GraphFile.{ReadsGraph, RefusesGraph}
 use Rattle.graph_files.specs.Kinds.{word_of as graph_word}
+use Rattle.shared_systems.specs.Shared.{SharedTaskSystem}
+use Rattle.shared_systems.specs.OneReader.{shared_of}
+use Rattle.shared_graph_files.specs.EitherVersion.{ReadsSharedGraph, RefusesSharedGraph}
 use Rattle.judging.specs.declared.status.Status.{Status}
 use Rattle.requests.specs.Request.{Ordering, natural, min_degree, perm_named, Matrix, TreeInput, tree_named, matrix_named, Input, tree_input}
+use Rattle.requests.specs.Request.{TaskSource, input_tasks, graph_tasks, shared_graph_file}
 use Rattle.requests.specs.Request.{workflow_named, OrderSource, order_named, plan_named, FileRole, tree_file, workflow_file, graph_file}
 use Rattle.requests.specs.Request.{matrix_file, perm_file, order_file, plan_file, priority_file, plan_priority_file, NamedFile}
 use Rattle.workflow_files.specs.Kinds.{word_of as workflow_word}
@@ -90,6 +94,10 @@ IsWorkflowFile text positions = IsWithinBytes text × ReadsWorkflow text positio
 abbrev pub IsGraphFile : List ℕ → TaskGraph → Type 0
 IsGraphFile text graph = IsWithinBytes text × ReadsGraph text graph
 
+-- of either version
+abbrev pub IsSharedGraphFile : List ℕ → SharedTaskSystem → Type 0
+IsSharedGraphFile text system = IsWithinBytes text × ReadsSharedGraph text system
+
 abbrev pub IsMatrixFile : List ℕ → List (List ℕ) → Type 0
 IsMatrixFile text rows = IsWithinBytes text × ReadsPattern text rows
 
@@ -144,6 +152,13 @@ IsSystemOf (workflow_named name) [] system = ⊥
 IsSystemOf (workflow_named name) (text ∷ []) system =
     (positions : List Position) × (term : Term) × IsWorkflowFile text positions × Denotes positions term × (system ≡ system_of_term term)
 IsSystemOf (workflow_named name) (text ∷ more ∷ texts) system = ⊥
+
+-- the system of tasks: that of an input, whose items have one reader each, or none; or of a task graph
+abbrev pub IsTaskSystemOf : TaskSource → List (List ℕ) → SharedTaskSystem → Type 0
+IsTaskSystemOf (input_tasks input) texts shared = (system : TaskSystem) × IsSystemOf input texts system × (shared ≡ shared_of system)
+IsTaskSystemOf (graph_tasks name) [] shared = ⊥
+IsTaskSystemOf (graph_tasks name) (text ∷ []) shared = IsSharedGraphFile text shared
+IsTaskSystemOf (graph_tasks name) (text ∷ more ∷ texts) shared = ⊥
 
 -- the system of an input, and the positions of its term: a tree's are those of its forest, children in rising number
 abbrev pub IsSystemWithTerm : Input → List (List ℕ) → TaskSystem → List Position → Type 0
@@ -207,6 +222,8 @@ abbrev pub IsRefusedInRole : FileRole → List (List ℕ) → List ℕ → Answe
 IsRefusedInRole tree_file earlier text answer = IsRefusedFile (codes "tree") tree_word (RefusesTree text) text answer
 IsRefusedInRole workflow_file earlier text answer = IsRefusedFile (codes "workflow") workflow_word (RefusesWorkflow text) text answer
 IsRefusedInRole graph_file earlier text answer = IsRefusedFile (codes "graph") graph_word (RefusesGraph text) text answer
+IsRefusedInRole shared_graph_file earlier text answer =
+    IsRefusedFile (codes "graph") graph_word (RefusesSharedGraph text) text answer
 IsRefusedInRole (matrix_file ordering) earlier text answer =
     IsRefusedFile (codes "matrix") matrix_word (RefusesPattern text) text answer ⊎ IsTooLarge ordering text answer
 IsRefusedInRole perm_file earlier text answer = IsRefusedPerm earlier text answer
@@ -220,6 +237,7 @@ abbrev pub HasValue : FileRole → List (List ℕ) → List ℕ → Type 0
 HasValue tree_file earlier text = (nodes : List Node) × IsTreeFile text nodes
 HasValue workflow_file earlier text = (positions : List Position) × IsWorkflowFile text positions
 HasValue graph_file earlier text = (graph : TaskGraph) × IsGraphFile text graph
+HasValue shared_graph_file earlier text = (system : SharedTaskSystem) × IsSharedGraphFile text system
 HasValue (matrix_file ordering) earlier text = (rows : List (List ℕ)) × IsMatrixFile text rows × HasOrdering ordering (length rows)
 HasValue perm_file earlier text = IsAcceptedPerm earlier text
 HasValue order_file earlier text = (numbers : List ℕ) × IsOrderFile text numbers

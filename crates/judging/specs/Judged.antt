@@ -13,22 +13,28 @@ use Rattle.matrix_files.specs.PermFile.{RefusesPerm}
 use Rattle.sp_terms.specs.Postfix.{Denotes}
 use Rattle.sp_terms.specs.Values.{term_of}
 use Rattle.judging.specs.Files.{limit_refused, Answer, IsRefusedInRole, IsRefusedAs, IsRefusedFile, IsOrderFrom, IsOrderedMatrix}
-use Rattle.judging.specs.Files.{IsPermFile, IsTreeOf, IsWorkflowFile, AreAccepted}
+use Rattle.judging.specs.Files.{IsPermFile, IsTreeOf, IsWorkflowFile, IsSharedGraphFile, AreAccepted}
 use Rattle.judging.specs.Priorities.{IsOwnPriority, priority_or}
 use Rattle.judging.specs.Numbered.{IsNumberedTerm}
 use Rattle.judging.specs.Told.{AreTold, HasFailed}
 use Rattle.judging.specs.Pages.{answer_of}
 use Rattle.matrix_files.specs.OrderKinds.{perm_word}
 use Rattle.requests.specs.Request.{Ordering, natural, min_degree, perm_named, Input, tree_input, workflow_named, NamedFile, OrderSource}
-use Rattle.requests.specs.Request.{input_files, source_file}
+use Rattle.requests.specs.Request.{input_files, source_file, TaskSource, input_tasks, graph_tasks, task_files}
+use Rattle.shared_systems.specs.Shared.{SharedTaskSystem}
+use Rattle.shared_systems.specs.OneReader.{shared_of}
+use Rattle.least_peak.specs.Problem.{system_of}
 use Rattle.judging.specs.declared.files.Ranked.{Ranked}
-use Rattle.judging.specs.declared.files.Ranked.TheVariants.{Vertices, Tasks}
+use Rattle.judging.specs.declared.files.Ranked.TheVariants as ranked
 use Rattle.judging.specs.declared.inputs.Order.{Order}
 use Rattle.judging.specs.declared.inputs.Order.TheVariants as orders
 use Rattle.judging.specs.declared.inputs.Priority.{Priority}
 use Rattle.judging.specs.declared.inputs.Priority.TheVariants as priorities
 use Rattle.judging.specs.declared.inputs.OrderedPattern.{OrderedPattern}
 use Rattle.judging.specs.declared.inputs.OrderedProblem.{OrderedProblem}
+use Rattle.judging.specs.declared.inputs.OrderedTasks.{OrderedTasks}
+use Rattle.judging.specs.declared.inputs.Tasks.{Tasks}
+use Rattle.judging.specs.declared.inputs.Tasks.TheVariants as tasks
 use Rattle.judging.specs.declared.numbered.NumberedTerm.{NumberedTerm}
 use Rattle.judging.specs.declared.stop.Stop.{Stop}
 use Rattle.judging.specs.declared.stop.Stop.TheVariants as stops
@@ -62,8 +68,8 @@ IsJudged told before after name takes refuses result =
 
 -- the word for a file of a permutation
 abbrev pub rank_word : Ranked → List ℕ
-rank_word Vertices = codes "perm"
-rank_word Tasks = codes "priority"
+rank_word ranked.Vertices = codes "perm"
+rank_word ranked.Tasks = codes "priority"
 
 -- the page of a refusal, or that memory ran out
 abbrev pub IsRefusingPage : (Answer → Type 0) → Stop → Type 0
@@ -108,6 +114,16 @@ IsProblemOf (workflow_named name) (text ∷ []) (origins.Workflow positions) =
     IsWorkflowFile text positions × Denotes positions (term_of positions)
 IsProblemOf input texts origin = ⊥
 
+-- what tasks are read as, and their system
+abbrev pub AreTasksOf : TaskSource → List (List ℕ) → Tasks → Type 0
+AreTasksOf (input_tasks input) texts (tasks.Problem problem) = IsProblemOf input texts problem
+AreTasksOf (graph_tasks name) (text ∷ []) (tasks.Graph system) = IsSharedGraphFile text system
+AreTasksOf source texts read = ⊥
+
+abbrev pub system_of_tasks : Tasks → SharedTaskSystem
+system_of_tasks (tasks.Problem problem) = shared_of (system_of problem)
+system_of_tasks (tasks.Graph system) = system
+
 -- the tasks of an order that was read
 abbrev pub order_tasks : Order → List ℕ
 order_tasks (orders.Listed numbers) = numbers.items
@@ -129,14 +145,23 @@ abbrev pub IsRefusedSource : OrderSource → List (List ℕ) → Answer → Type
 IsRefusedSource source (text ∷ []) answer = (earlier : List (List ℕ)) → IsRefusedInRole (source_file source).role earlier text answer
 IsRefusedSource source texts answer = ⊥
 
--- the problem of an input, and the order of a source
-pub record IsOrderedOf (input : Input) (source : OrderSource) (texts : List (List ℕ)) (ordered : OrderedProblem) : Type 0 where
+-- what files are read as, and after them the order of a source
+pub record IsBeforeOrder {A : Type 0} (files : List NamedFile) (takes : List (List ℕ) → A → Type 0) (source : OrderSource)
+    (texts : List (List ℕ)) (value : A) (order : Order) : Type 0 where
   pub mine : List (List ℕ)
   pub text : List ℕ
   pub texts_are : texts ≡ mine ++ text ∷ []
-  pub is_problem : IsProblemOf input mine ordered.problem
-  pub is_order : IsOrderRead source (text ∷ []) ordered.order
-  pub accepted : AreAccepted (input_files input ++ source_file source ∷ []) [] texts
+  pub is_value : takes mine value
+  pub is_order : IsOrderRead source (text ∷ []) order
+  pub accepted : AreAccepted (files ++ source_file source ∷ []) [] texts
+
+-- the problem of an input, and the order of a source
+abbrev pub IsOrderedOf : Input → OrderSource → List (List ℕ) → OrderedProblem → Type 0
+IsOrderedOf input source texts ordered = IsBeforeOrder (input_files input) (IsProblemOf input) source texts ordered.problem ordered.order
+
+-- tasks, and the order of a source
+abbrev pub AreOrderedOf : TaskSource → OrderSource → List (List ℕ) → OrderedTasks → Type 0
+AreOrderedOf tasks source texts ordered = IsBeforeOrder (task_files tasks) (AreTasksOf tasks) source texts ordered.tasks ordered.order
 
 -- ---- priorities
 

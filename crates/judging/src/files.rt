@@ -10,6 +10,7 @@ ghost use Rattle.matrix_files.specs.PermFile.{ReadsPerm, RefusesPerm};
 ghost use Rattle.plan_files.specs.PlanFile.{ReadsPlan, RefusesPlan};
 ghost use Rattle.workflow_files.specs.WorkflowFile.{ReadsWorkflow, RefusesWorkflow};
 ghost use Rattle.graph_files.specs.GraphFile.{ReadsGraph, RefusesGraph};
+ghost use Rattle.shared_graph_files.specs.EitherVersion.{ReadsSharedGraph, RefusesSharedGraph};
 ghost use Rattle.tree_files.specs.TreeFile.{ReadsTree, RefusesTree};
 ghost use Rattle.judging.specs.Files.{IsRefusedFile, IsWithinBytes, limit_refused};
 ghost use Rattle.judging.specs.Judged.{IsStopAt, IsStopFor, IsJudged, IsRefusalOf, rank_word};
@@ -26,6 +27,8 @@ use patterns::Pattern;
 use permutations::Perm;
 use plan_files::{PlanKind, read_plan};
 use plans::Plan;
+use shared_graph_files::read_shared_graph;
+use shared_systems::SharedSystem;
 use sp_terms::TermList;
 use std::alloc::Global;
 use tree_files::{TreeKind, read_tree};
@@ -178,6 +181,30 @@ impl FileKind for GraphFile {
 
     fn read(&self, alloc: Global, text: Vec<u8>) -> Result<Graph, Refusal<GraphKind>> {
         read_graph(alloc, &text)
+    }
+}
+
+/// A task graph file of either version, whose items may have several readers.
+#[derive(Clone, Copy, Debug)]
+pub struct SharedGraphFile;
+
+impl FileKind for SharedGraphFile {
+    type Value = SharedSystem;
+
+    type Kind = GraphKind;
+
+    ghost file_word = { λ _. codes "graph" };
+
+    ghost reads = { λ _. ReadsSharedGraph };
+
+    ghost refuses = { λ _. RefusesSharedGraph };
+
+    fn word(&self) -> &'static str {
+        "graph"
+    }
+
+    fn read(&self, alloc: Global, text: Vec<u8>) -> Result<SharedSystem, Refusal<GraphKind>> {
+        read_shared_graph(alloc, &text)
     }
 }
 

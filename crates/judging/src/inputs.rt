@@ -1,7 +1,7 @@
 //! The files of an input are read and judged one after the other, and come to a tree or a problem; and so are the order of its tasks and
 //! their priority.
 
-ghost use Rattle.std.specs.Prelude.{◌≡◌, ◌≤◌, ℕ, List, [], ◌∷◌, ◌++◌, IfOk, MatchResult, length, option_map};
+ghost use Rattle.std.specs.Prelude.{◌≡◌, ◌≤◌, ℕ, List, [], ◌∷◌, ◌++◌, IfOk, IfErr, MatchResult, length, option_map};
 ghost use Rattle.activation.specs.Schedule.{HoldsEach};
 ghost use Rattle.mp_system.specs.System.{TaskSystem};
 ghost use Rattle.mp_system.specs.Traversal.{IsTraversal};
@@ -9,13 +9,17 @@ ghost use Rattle.plans.specs.Plan.{IsPlan};
 ghost use Rattle.judging.specs.Files.{IsOrderOf, IsMatrixTree, IsTreeOf, IsFirstRefusal};
 ghost use Rattle.judging.specs.Priorities.{priority_or};
 ghost use Rattle.judging.specs.Judged.{AreJudged, IsRefusingPage, IsRefusedOrder, IsMatrixRead, IsProblemOf, IsOrderedOf, IsOrderRead};
+ghost use Rattle.judging.specs.Judged.{AreTasksOf, AreOrderedOf, system_of_tasks};
+ghost use Rattle.shared_systems.specs.SharedMemory.{shared_peak_of};
+ghost use Rattle.shared_systems.specs.SharedTraversal.{IsSharedTraversal, IsSharedOrderRefusal};
 ghost use Rattle.judging.specs.Judged.{IsRefusedSource, IsPriorityOf, IsRefusedRanking, IsRanking, order_tasks, own_priority};
 ghost use Rattle.requests.specs.Request.{FileRole, matrix_files, ordered_matrix_files, min_degree, ordering_files, tree_input_files};
-ghost use Rattle.requests.specs.Request.{input_files, source_file, priority_files};
-ghost use Rattle.requests.specs.RequestViews.{ordering_view, matrix_view, ordered_matrix_view, tree_input_view, input_view, source_view};
+ghost use Rattle.requests.specs.Request.{input_files, task_files, source_file, priority_files};
+ghost use Rattle.requests.specs.RequestViews.{ordering_view, matrix_view, ordered_matrix_view, tree_input_view, input_view, tasks_view, source_view};
 
 use crate::files::{
-    MatrixFile, OrderFile, PermFile, PlanFile, Ranked, TreeFile, WorkflowFile, judge,
+    MatrixFile, OrderFile, PermFile, PlanFile, Ranked, SharedGraphFile, TreeFile, WorkflowFile,
+    judge,
 };
 use crate::page::limit_page;
 use crate::stop::Stop;
@@ -23,12 +27,15 @@ use least_peak::Problem;
 use limits::LimitName;
 use matrix_files::laws::read_is_perm;
 use mp_outside::Files;
+use mp_system::ReplayRefusal;
 use mp_system::laws::traversal_law;
 use ordering::{MindegRefusal, min_degree};
 use patterns::Pattern;
 use permutations::{Perm, identity};
 use plans::Plan;
-use requests::{Input, Matrix, OrderSource, OrderedMatrix, Ordering, TreeInput};
+use requests::{Input, Matrix, OrderSource, OrderedMatrix, Ordering, TaskSource, TreeInput};
+use shared_systems::SharedSystem;
+use shared_systems::laws::one_reader_law;
 use sp_terms::laws::terms_law;
 use std::alloc::{AllocError, Global};
 use symbolic::front_tree;
@@ -159,6 +166,51 @@ pub fn judge_input<F: Files>(
     }
 }
 
+/// Tasks, as they are read: the problem of an input, or the system of a task graph.
+#[derive(Drop)]
+pub enum Tasks {
+    Problem(Problem),
+    Graph(SharedSystem),
+}
+
+impl Tasks {
+    /// The peak of a traversal, or the first place at which the order fails to be one. Linear in the tasks, the items and their readers.
+    pub fn replay(&self, alloc: Global, order: &[u32]) -> Result<u64, ReplayRefusal>
+        ensures peak { let system = system_of_tasks self.now in IfOk result (λ peak.
+            IsSharedTraversal system order.now × (peak ≡ shared_peak_of system order.now)) }
+        ensures fault { IfErr result (IsSharedOrderRefusal (system_of_tasks self.now) order.now) }
+    {
+        one_reader_law();
+        match self {
+            Tasks::Problem(problem) => problem.replay(alloc, order),
+            Tasks::Graph(system) => system.peak(alloc, order),
+        }
+    }
+}
+
+/// The tasks of a source.
+pub fn judge_tasks<F: Files>(
+    alloc: Global,
+    files: &mut F,
+    tasks: TaskSource<'_>,
+) -> Result<Tasks, Stop>
+    ensures judged { AreJudged (F.bytes_of files.old) (F.faults_of files.old) (F.faults_of files.new) (task_files (tasks_view tasks.entry))
+        (AreTasksOf (tasks_view tasks.entry)) (IsFirstRefusal (task_files (tasks_view tasks.entry)) []) result }
+    ensures same { (other : List ℕ) → F.bytes_of files.new other ≡ F.bytes_of files.old other }
+    ensures later { (other : List ℕ) → F.faults_of files.old other ≤ F.faults_of files.new other }
+{
+    match tasks {
+        TaskSource::Input(input) => {
+            let problem = judge_input(alloc, files, input)?;
+            Ok(Tasks::Problem(problem))
+        }
+        TaskSource::Graph(name) => {
+            let system = judge(alloc, files, name, &SharedGraphFile)?;
+            Ok(Tasks::Graph(system))
+        }
+    }
+}
+
 /// An order of tasks: of an order file, or of a plan.
 #[derive(Drop)]
 pub enum Order {
@@ -251,6 +303,32 @@ pub fn judge_ordered<F: Files>(
     let problem = judge_input(alloc, files, input)?;
     let order = judge_order(alloc, files, source)?;
     Ok(OrderedProblem { problem, order })
+}
+
+/// Tasks, and an order of them.
+#[derive(Drop)]
+pub struct OrderedTasks {
+    pub tasks: Tasks,
+    pub order: Order,
+}
+
+/// The tasks of a source, and the order of another.
+pub fn judge_ordered_tasks<F: Files>(
+    alloc: Global,
+    files: &mut F,
+    tasks: TaskSource<'_>,
+    source: OrderSource<'_>,
+) -> Result<OrderedTasks, Stop>
+    ensures judged { AreJudged (F.bytes_of files.old) (F.faults_of files.old) (F.faults_of files.new)
+        (task_files (tasks_view tasks.entry) ++ source_file (source_view source.entry) ∷ [])
+        (AreOrderedOf (tasks_view tasks.entry) (source_view source.entry))
+        (IsFirstRefusal (task_files (tasks_view tasks.entry) ++ source_file (source_view source.entry) ∷ []) []) result }
+    ensures same { (other : List ℕ) → F.bytes_of files.new other ≡ F.bytes_of files.old other }
+    ensures later { (other : List ℕ) → F.faults_of files.old other ≤ F.faults_of files.new other }
+{
+    let tasks = judge_tasks(alloc, files, tasks)?;
+    let order = judge_order(alloc, files, source)?;
+    Ok(OrderedTasks { tasks, order })
 }
 
 // ---- the priority

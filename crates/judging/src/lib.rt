@@ -11,12 +11,12 @@ mod status;
 mod stop;
 
 pub use files::{
-    FileKind, GraphFile, MatrixFile, OrderFile, PermFile, PlanFile, Ranked, TreeFile, WorkflowFile,
-    judge,
+    FileKind, GraphFile, MatrixFile, OrderFile, PermFile, PlanFile, Ranked, SharedGraphFile,
+    TreeFile, WorkflowFile, judge,
 };
 pub use inputs::{
-    Order, OrderedPattern, OrderedProblem, Priority, judge_input, judge_matrix, judge_ordered,
-    judge_pattern, judge_priority, judge_tree,
+    Order, OrderedPattern, OrderedProblem, OrderedTasks, Priority, Tasks, judge_input,
+    judge_matrix, judge_ordered, judge_ordered_tasks, judge_pattern, judge_priority, judge_tree,
 };
 pub use numbered::{NumberedTerm, judge_numbered};
 pub use page::{

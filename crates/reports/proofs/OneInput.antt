@@ -14,6 +14,9 @@ use Rattle.sp_terms.specs.SystemOfTerm.{system_of_term}
 use Rattle.sp_terms.specs.Term.{Term}
 use Rattle.sp_terms.specs.Values.{IsTerms, term_of}
 use Rattle.workflow_files.specs.WorkflowFile.{ReadsWorkflow}
+use Rattle.shared_systems.specs.Shared.{SharedTaskSystem}
+use Rattle.shared_systems.specs.OneReader.{shared_of}
+use Rattle.shared_graph_files.specs.EitherVersion.{ReadsSharedGraph}
 use Rattle.symbolic.specs.FrontTree.{IsFrontTree}
 use Rattle.symbolic.specs.declared.options.FrontOptions.{FrontOptions}
 use Rattle.trees.specs.declared.node.Node.{Node}
@@ -21,12 +24,13 @@ use Rattle.trees.specs.Forest.{Forest, IsForestOf, all_numbers}
 use Rattle.trees.specs.Tree.{IsTree, system_of_nodes}
 use Rattle.tree_files.specs.TreeFile.{ReadsTree}
 use Rattle.trees.specs.TreeTerm.{forest_positions}
-use Rattle.judging.specs.Files.{IsOrderOf, IsMatrixTree, IsTreeOf, IsSystemOf, IsSystemWithTerm, IsOrderedMatrix}
+use Rattle.judging.specs.Files.{IsOrderOf, IsMatrixTree, IsTreeOf, IsSystemOf, IsSystemWithTerm, IsTaskSystemOf, IsOrderedMatrix}
 use Rattle.judging.specs.Judged.{AreWithin}
 use Rattle.judging.specs.Numbered.{IsNumberedTerm, node_positions}
 use Rattle.judging.proofs.NumberLemmas.{forest_within, range_within}
 use Rattle.requests.specs.Request.{Ordering, natural, min_degree, perm_named, Matrix, TreeInput, tree_named, matrix_named, Input}
 use Rattle.requests.specs.Request.{tree_input, workflow_named, ordering_files, matrix_files, tree_input_files, input_files}
+use Rattle.requests.specs.Request.{TaskSource, input_tasks, graph_tasks, task_files}
 
 -- lists that are cut at the same place
 same_cut : {A : Type 0} (a b : List A) (x y : A) (xs ys : List A)
@@ -64,6 +68,7 @@ pub record Parts : Type 0 where
       → IsPattern rows → length order ≡ length rows
       → IsFrontTree options rows order nodes → IsTree nodes
   pub workflows : OneValue ReadsWorkflow
+  pub graphs : OneValue ReadsSharedGraph
   pub terms : (bytes : List ℕ) (positions : List Position) → ReadsWorkflow bytes positions → IsTerms positions
   pub denotes : (positions : List Position) → IsTerms positions → Denotes positions (term_of positions)
   pub term_system : (positions : List Position) → IsTerms positions → IsSystem (system_of_term (term_of positions))
@@ -123,6 +128,15 @@ module _ (p : Parts) where
       (e ∙ ap system_of_term same ∙ sym e', subst IsSystem (sym own) (p.term_system ps terms), refl)
   one_system (workflow_named name) (text ∷ more ∷ texts) s t is other = absurd is
 
+  pub one_task_system : (source : TaskSource) (texts : List (List ℕ)) (s t : SharedTaskSystem) → IsTaskSystemOf source texts s
+      → IsTaskSystemOf source texts t → (s ≡ t) × (length texts ≡ length (task_files source))
+  one_task_system (input_tasks input) texts s t (own, is, e) (other, is', e') =
+      let one = one_system input texts own other is is' in
+      (e ∙ ap shared_of one.0 ∙ sym e', one.2)
+  one_task_system (graph_tasks name) [] s t is other = absurd is
+  one_task_system (graph_tasks name) (text ∷ []) s t is other = (p.graphs text s t is.1 other.1, refl)
+  one_task_system (graph_tasks name) (text ∷ more ∷ texts) s t is other = absurd is
+
   pub one_list_of_positions : (input : Input) (texts : List (List ℕ)) (s t : TaskSystem) (ps qs : List Position)
       → IsSystemWithTerm input texts s ps → IsSystemWithTerm input texts t qs → ps ≡ qs
   one_list_of_positions (tree_input input) texts s t ps qs (nodes, f, is, e, forest, at) (nodes', g, is', e', forest', at') =
@@ -168,3 +182,17 @@ same_texts systems input mine mine' text text' rest rest' s t split is is' =
     let len = (systems input mine s s is is).2 ∙ sym ((systems input mine' t t is' is').2) in
     let same = same_cut mine mine' text text' rest rest' len split in
     (same.0, same.1, same.2, (systems input mine s t is (subst (λ (ts : List (List ℕ)). IsSystemOf input ts t) (sym same.0) is')).0)
+
+-- and of those of tasks
+abbrev pub TaskSystems : Type 0
+TaskSystems = (source : TaskSource) (texts : List (List ℕ)) (one two : SharedTaskSystem) → IsTaskSystemOf source texts one
+    → IsTaskSystemOf source texts two → (one ≡ two) × (length texts ≡ length (task_files source))
+
+pub same_task_texts : TaskSystems
+    → (source : TaskSource) (mine mine' : List (List ℕ)) (text text' : List ℕ) (rest rest' : List (List ℕ)) (s t : SharedTaskSystem)
+    → mine ++ text ∷ rest ≡ mine' ++ text' ∷ rest' → IsTaskSystemOf source mine s
+    → IsTaskSystemOf source mine' t → (mine ≡ mine') × (text ≡ text') × (rest ≡ rest') × (s ≡ t)
+same_task_texts systems source mine mine' text text' rest rest' s t split is is' =
+    let len = (systems source mine s s is is).1 ∙ sym ((systems source mine' t t is' is').1) in
+    let same = same_cut mine mine' text text' rest rest' len split in
+    (same.0, same.1, same.2, (systems source mine s t is (subst (λ (ts : List (List ℕ)). IsTaskSystemOf source ts t) (sym same.0) is')).0)

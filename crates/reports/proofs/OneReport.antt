@@ -18,6 +18,8 @@ use Rattle.plans.specs.Plan.{PlanValue, IsPlan, IsPriority}
 use Rattle.plan_files.specs.PlanFile.{ReadsPlan}
 use Rattle.postorder_best.specs.BestPostorder.{IsBestPostorder}
 use Rattle.sp_terms.specs.declared.position.Position.{Position}
+use Rattle.shared_systems.specs.Shared.{SharedTaskSystem}
+use Rattle.shared_systems.specs.SharedTraversal.{IsSharedTraversal, first_shared_fault}
 use Rattle.sp_cuts.specs.StairLaws.{OneStairs}
 use Rattle.trees.specs.declared.node.Node.{Node}
 use Rattle.trees.specs.Tree.{IsTree, system_of_nodes}
@@ -31,6 +33,7 @@ use Rattle.reports.specs.Post.{IsPost, post_answer}
 use Rattle.reports.specs.Replay.{IsReplayAnswer, IsReplayOf}
 use Rattle.requests.specs.Request.{Request, replay, tree, post, check, planning, simulate, demo, upgrade, spill, segments}
 use Rattle.requests.specs.Request.{reduce, Upgrade, IsInRange, IsMakeable, TreeInput, matrix_named, Input, OrderSource}
+use Rattle.requests.specs.Request.{TaskSource, task_files}
 use Rattle.requests.specs.Request.{order_named, plan_named, Simulation, FileRole, NamedFile, tree_input_files, input_files}
 use Rattle.requests.specs.Request.{source_file, priority_file, priority_files, files_of, fronts, OrderedMatrix}
 use Rattle.reports.specs.Simulate.{IsPriorityFrom, IsSimulation, IsSimulationOf, setting_of, simulation_answer}
@@ -41,7 +44,8 @@ use Rattle.judging.specs.Numbered.{IsNumberedTerm}
 use Rattle.reports.specs.Upgrade.{Versioned, IsUpgradedFrom}
 use Rattle.requests.specs.declared.commands.demo.Demo.{Demo}
 use Rattle.judging.proofs.InputLemmas.{ordered_accepted, matrix_accepted, tree_accepted, input_accepted, source_accepted, work_has_system}
-use Rattle.reports.proofs.OneInput.{Systems, same_texts}
+use Rattle.judging.proofs.InputLemmas.{system_accepted}
+use Rattle.reports.proofs.OneInput.{Systems, TaskSystems, same_texts, same_task_texts}
 use Rattle.reports.proofs.UpgradeLemmas.{upgrade_accepted, one_upgrade_answer}
 use Rattle.reports.proofs.StairsLemmas.{one_segments, numbered_accepted}
 use Rattle.judging.proofs.HeldTasks.{of_traversal, of_perm, of_own}
@@ -51,6 +55,7 @@ pub record Reports : Type 0 where
   pub trees : (input : TreeInput) (texts : List (List ℕ)) (a b : List Node) → IsTreeOf input texts a → IsTreeOf input texts b
       → (a ≡ b) × IsTree a × (length texts ≡ length (tree_input_files input))
   pub systems : Systems
+  pub task_systems : TaskSystems
   pub terms : (input : Input) (texts : List (List ℕ)) (s t : TaskSystem) (ps qs : List Position)
       → IsSystemWithTerm input texts s ps → IsSystemWithTerm input texts t qs → ps ≡ qs
   pub orders : (bytes a b : List ℕ) → ReadsOrder bytes a → ReadsOrder bytes b → a ≡ b
@@ -59,6 +64,7 @@ pub record Reports : Type 0 where
   pub plans : (bytes : List ℕ) (a b : PlanValue) → ReadsPlan bytes a → ReadsPlan bytes b → a ≡ b
   pub plan : (bytes : List ℕ) (a : PlanValue) → ReadsPlan bytes a → IsPlan a
   pub fault : (system : TaskSystem) (order : List ℕ) → (first_fault system order ≡ None) ↔ IsTraversal system order
+  pub shared_fault : (system : SharedTaskSystem) (order : List ℕ) → (first_shared_fault system order ≡ None) ↔ IsSharedTraversal system order
   pub long : (system : TaskSystem) (order : List ℕ) → IsTraversal system order → length order ≡ length system.tasks
   pub best : (nodes : List Node) (a b : List ℕ) → IsTree nodes → IsBestPostorder nodes a → IsBestPostorder nodes b → a ≡ b
   pub verdict : (system : TaskSystem) (ps : List Position) (plan : PlanValue) (a b : Verdict)
@@ -86,24 +92,29 @@ module _ (r : Reports) where
       → IsTraversal system order → first_fault system order ≡ Some (place, kind) → ⊥
   no_fault system order place kind traversal fault = let none = (r.fault system order).1 traversal in cc
 
-  same_fault : (system : TaskSystem) (order : List ℕ) (a b : Answer)
-      → (place : ℕ) × (kind : OrderKind) × (first_fault system order ≡ Some (place, kind)) × (a ≡ order_refused place kind)
-      → (place : ℕ) × (kind : OrderKind) × (first_fault system order ≡ Some (place, kind)) × (b ≡ order_refused place kind) → a ≡ b
-  same_fault system order a b (place, kind, fault, e) (place', kind', fault', e') =
+  same_fault : (first : Option (ℕ × OrderKind)) (a b : Answer)
+      → (place : ℕ) × (kind : OrderKind) × (first ≡ Some (place, kind)) × (a ≡ order_refused place kind)
+      → (place : ℕ) × (kind : OrderKind) × (first ≡ Some (place, kind)) × (b ≡ order_refused place kind) → a ≡ b
+  same_fault first a b (place, kind, fault, e) (place', kind', fault', e') =
       let same : Some (place, kind) ≡ Some (place', kind') = sym fault ∙ fault' in
       let places : (place, kind) ≡ (place', kind') = cc in
       e ∙ ap (λ (x : ℕ × OrderKind). order_refused x.0 x.1) places ∙ sym e'
 
-  one_replay : (system : TaskSystem) (order : List ℕ) (a b : Answer) → IsReplayAnswer system order a → IsReplayAnswer system order b → a ≡ b
+  no_shared_fault : (system : SharedTaskSystem) (order : List ℕ) (place : ℕ) (kind : OrderKind)
+      → IsSharedTraversal system order → first_shared_fault system order ≡ Some (place, kind) → ⊥
+  no_shared_fault system order place kind traversal fault = let none = (r.shared_fault system order).1 traversal in cc
+
+  one_replay : (system : SharedTaskSystem) (order : List ℕ) (a b : Answer)
+      → IsReplayAnswer system order a → IsReplayAnswer system order b → a ≡ b
   one_replay system order a b (inl is) (inl is') = is.1 ∙ sym is'.1
-  one_replay system order a b (inl is) (inr (place, kind, fault, e)) = absurd (no_fault system order place kind is.0 fault)
-  one_replay system order a b (inr (place, kind, fault, e)) (inl is) = absurd (no_fault system order place kind is.0 fault)
-  one_replay system order a b (inr is) (inr is') = same_fault system order a b is is'
+  one_replay system order a b (inl is) (inr (place, kind, fault, e)) = absurd (no_shared_fault system order place kind is.0 fault)
+  one_replay system order a b (inr (place, kind, fault, e)) (inl is) = absurd (no_shared_fault system order place kind is.0 fault)
+  one_replay system order a b (inr is) (inr is') = same_fault (first_shared_fault system order) a b is is'
 
   one_simulation : (c : Setting) (priority : List ℕ) (a b : Answer) → IsSystem c.system
       → 1 ≤ c.workers → (IsTraversal c.system c.order → HoldsEach c.system priority)
       → IsSimulation c priority a → IsSimulation c priority b → a ≡ b
-  one_simulation c priority a b system workers holds (inl is) (inl is') = same_fault c.system c.order a b is is'
+  one_simulation c priority a b system workers holds (inl is) (inl is') = same_fault (first_fault c.system c.order) a b is is'
   one_simulation c priority a b system workers holds (inl (place, kind, fault, e)) (inr (inl is)) =
       absurd (no_fault c.system c.order place kind is.0 fault)
   one_simulation c priority a b system workers holds (inl (place, kind, fault, e)) (inr (inr (es, is, within, scheduled, e'))) =
@@ -152,11 +163,11 @@ module _ (r : Reports) where
 
   -- ---- the reports
 
-  replayed_once : (input : Input) (source : OrderSource) (texts : List (List ℕ)) (a b : Answer)
-      → IsReplayOf input source texts a → IsReplayOf input source texts b → a ≡ b
-  replayed_once input source texts a b (mine, text, s, order, split, is_system, is_order, is)
+  replayed_once : (tasks : TaskSource) (source : OrderSource) (texts : List (List ℕ)) (a b : Answer)
+      → IsReplayOf tasks source texts a → IsReplayOf tasks source texts b → a ≡ b
+  replayed_once tasks source texts a b (mine, text, s, order, split, is_system, is_order, is)
       (mine', text', t, order', split', is_system', is_order', is') =
-      let same = same_texts r.systems input mine mine' text text' [] [] s t (sym split ∙ split') is_system is_system' in
+      let same = same_task_texts r.task_systems tasks mine mine' text text' [] [] s t (sym split ∙ split') is_system is_system' in
       let orders =
       one_order source text order order' is_order (subst (λ (x : List ℕ). IsOrderFrom source x order') (sym same.1) is_order') in
       one_replay s order a b is (coe 1 0 (i. IsReplayAnswer (same.3 i) (orders i) b) is')
@@ -191,7 +202,7 @@ module _ (r : Reports) where
 
   pub one_report : (request : Request) (texts : List (List ℕ)) (a b : Answer) → IsInRange request → IsDecided request
       → IsReport request texts a → IsReport request texts b → a ≡ b
-  one_report (replay input source) texts a b workers decided is is' = replayed_once input source texts a b is is'
+  one_report (replay tasks source) texts a b workers decided is is' = replayed_once tasks source texts a b is is'
   one_report (tree m) texts a b workers decided (nodes, is, e) (nodes', is', e') =
       e ∙ ap tree_answer (r.trees (matrix_named m) texts nodes nodes' is is').0 ∙ sym e'
   one_report (post input) texts a b workers decided (nodes, is, best) (nodes', is', best') =
@@ -221,13 +232,17 @@ module _ (r : Reports) where
         (subst (λ (e : List (List ℕ)). AreAccepted ys e two) (sym (append_assoc earlier (t ∷ []) one)) more),
   )
 
+  with_files : (xs ys : List NamedFile) (texts mine two : List (List ℕ)) → texts ≡ mine ++ two → length mine ≡ length xs
+      → AreAccepted xs [] mine → AreAccepted ys mine two → AreAccepted (xs ++ ys) [] texts
+  with_files xs ys texts mine two split len accepted more =
+      subst (AreAccepted (xs ++ ys) []) (sym split) (both_accepted xs ys [] mine two len accepted more)
+
   -- those of an input, and more
   with_input : (input : Input) (ys : List NamedFile) (texts mine two : List (List ℕ)) (s : TaskSystem)
       → texts ≡ mine ++ two → IsSystemOf input mine s → AreAccepted ys mine two
       → AreAccepted (input_files input ++ ys) [] texts
   with_input input ys texts mine two s split is more =
-      subst (AreAccepted (input_files input ++ ys) []) (sym split)
-      (both_accepted (input_files input) ys [] mine two (r.systems input mine s s is is).2 (input_accepted input mine s is) more)
+      with_files (input_files input) ys texts mine two split (r.systems input mine s s is is).2 (input_accepted input mine s is) more
 
   priority_accepted : (input : Input) (source : OrderSource) (name : Option (List ℕ))
       (mine : List (List ℕ)) (text : List ℕ) (rest : List (List ℕ)) (system : TaskSystem) (order a : List ℕ)
@@ -241,9 +256,10 @@ module _ (r : Reports) where
 
   pub report_accepted : (request : Request) (texts : List (List ℕ)) (a : Answer)
       → IsReport request texts a → AreAccepted (files_of request) [] texts
-  report_accepted (replay input source) texts a (mine, text, s, order, split, is_system, is_order, is) =
-      with_input input (source_file source ∷ []) texts mine
-      (text ∷ []) s split is_system (source_accepted source mine text order is_order, tt)
+  report_accepted (replay tasks source) texts a (mine, text, s, order, split, is_system, is_order, is) =
+      with_files (task_files tasks) (source_file source ∷ []) texts mine (text ∷ []) split
+      (r.task_systems tasks mine s s is_system is_system).1 (system_accepted tasks mine s is_system)
+      (source_accepted source mine text order is_order, tt)
   report_accepted (tree m) texts a (nodes, is, e) = matrix_accepted m texts nodes is
   report_accepted (post input) texts a (nodes, is, best) = tree_accepted input texts nodes is
   report_accepted (check input name workers) texts a (mine, text, s, ps, plan, split, with_term, is_plan, is) =

@@ -66,7 +66,7 @@ module _ (told : List ℕ → Option (List ℕ)) (input : Input) (source : Order
           is.text,
           system_of ordered.problem,
           is.texts_are,
-          problem_has_system input is.mine ordered.problem is.is_problem,
+          problem_has_system input is.mine ordered.problem is.is_value,
           refused,
         )
 
@@ -91,7 +91,7 @@ module _ (told : List ℕ → Option (List ℕ)) (input : Input) (source : Order
           order_tasks ordered.order,
           priority_beside ordered.order priority,
           split,
-          problem_has_system input work.mine ordered.problem work.is_problem,
+          problem_has_system input work.mine ordered.problem work.is_value,
           work.is_order.0,
           priority_from source s.priority
               (length system.tasks) work.text two ordered.order priority work.is_order.1 (is_priority two are_two),

@@ -6,6 +6,10 @@ use Rattle.matrix_files.specs.PermFile.{ReadsPerm}
 use Rattle.plans.specs.Plan.{PlanValue, IsPlan, IsPriority}
 use Rattle.plan_files.specs.PlanFile.{ReadsPlan}
 use Rattle.plan_files.specs.Printed.{plan_text_2}
+use Rattle.shared_systems.specs.Shared.{SharedTaskSystem}
+use Rattle.shared_systems.specs.Bounds.{IsSharedSystem}
+use Rattle.shared_graph_files.specs.EitherVersion.{ReadsSharedGraph}
+use Rattle.shared_graph_files.specs.SharedGraphText.{graph_text_2}
 use Rattle.sp_terms.specs.declared.position.Position.{Position}
 use Rattle.sp_terms.specs.Values.{IsTerms}
 use Rattle.workflow_files.specs.WorkflowFile.{ReadsWorkflow}
@@ -14,12 +18,12 @@ use Rattle.trees.specs.declared.node.Node.{Node}
 use Rattle.trees.specs.Tree.{IsTree}
 use Rattle.tree_files.specs.TreeFile.{ReadsTree}
 use Rattle.tree_files.specs.TreeText.{tree_text_2}
-use Rattle.judging.specs.Files.{Answer, IsTreeFile, IsWorkflowFile, IsPlanFile, IsFirstRefusal, AreAccepted}
+use Rattle.judging.specs.Files.{Answer, IsTreeFile, IsWorkflowFile, IsSharedGraphFile, IsPlanFile, IsFirstRefusal, AreAccepted}
 use Rattle.judging.specs.Told.{AreTold}
 use Rattle.judging.specs.Judged.{IsPriorityOf, IsRefusedRanking}
-use Rattle.requests.specs.Request.{Upgrade, tree_upgrade, workflow_upgrade, plan_upgrade, NamedFile}
+use Rattle.requests.specs.Request.{Upgrade, tree_upgrade, workflow_upgrade, graph_upgrade, plan_upgrade, NamedFile}
 use Rattle.requests.specs.Request.{plan_file, plan_priority_file, priority_files, upgrade_files}
-use Rattle.reports.specs.Upgrade.{Versioned, tree_value, workflow_value, plan_value, text_2, IsFileOf, with_priority}
+use Rattle.reports.specs.Upgrade.{Versioned, tree_value, workflow_value, graph_value, plan_value, text_2, IsFileOf, with_priority}
 use Rattle.reports.specs.Upgrade.{IsUpgradedFrom, upgrade_answer, IsUpgradeOf, IsUpgraded, upgrade_again}
 use Rattle.judging.specs.declared.inputs.Priority.{Priority}
 use Rattle.judging.specs.declared.inputs.Priority.TheVariants as priorities
@@ -36,6 +40,7 @@ pub record IsKind {V : Type 0} (reads : List ℕ → V → Type 0) (keeps : V �
 pub record Kinds : Type 0 where
   pub trees : IsKind ReadsTree IsTree tree_text_2
   pub workflows : IsKind ReadsWorkflow IsTerms workflow_text_2
+  pub graphs : IsKind ReadsSharedGraph IsSharedSystem graph_text_2
   pub plans : IsKind ReadsPlan IsPlan plan_text_2
   pub perms : (n : ℕ) (bytes a b : List ℕ) → ReadsPerm n bytes a → ReadsPerm n bytes b → a ≡ b
   pub perm : (n : ℕ) (bytes a : List ℕ) → ReadsPerm n bytes a → IsPerm n a
@@ -66,6 +71,10 @@ module _ (k : Kinds) where
       let both : t ∷ [] ≡ t' ∷ [] = sym e ∙ e' in
       let same : t ≡ t' = cc in
       v ∙ ap workflow_value (k.workflows.one t x x' is.1 (subst (λ (s : List ℕ). ReadsWorkflow s x') (sym same) is'.1)) ∙ sym v'
+  one_upgrade (graph_upgrade name) texts a b (t, x, e, is, v) (t', x', e', is', v') =
+      let both : t ∷ [] ≡ t' ∷ [] = sym e ∙ e' in
+      let same : t ≡ t' = cc in
+      v ∙ ap graph_value (k.graphs.one t x x' is.1 (subst (λ (s : List ℕ). ReadsSharedGraph s x') (sym same) is'.1)) ∙ sym v'
   one_upgrade (plan_upgrade name None) texts a b (t, x, e, is, v) (t', x', e', is', v') =
       let both : t ∷ [] ≡ t' ∷ [] = sym e ∙ e' in
       let same : t ≡ t' = cc in
@@ -85,6 +94,9 @@ module _ (k : Kinds) where
   written_workflow : (x : List Position) → IsTerms x → IsWorkflowFile (workflow_text_2 x) x
   written_workflow x is = (k.workflows.short x is, k.workflows.printed x is)
 
+  written_graph : (x : SharedTaskSystem) → IsSharedSystem x → IsSharedGraphFile (graph_text_2 x) x
+  written_graph x is = (k.graphs.short x is, k.graphs.printed x is)
+
   written_plan : (x : PlanValue) → IsPlan x → IsPlanFile (plan_text_2 x) x
   written_plan x is = (k.plans.short x is, k.plans.printed x is)
 
@@ -96,6 +108,8 @@ module _ (k : Kinds) where
   upgraded_file (tree_upgrade name) texts value (t, x, e, is, v) = says_it value (tree_value x) v (written_tree x (k.trees.kept t x is.1))
   upgraded_file (workflow_upgrade name) texts value (t, x, e, is, v) =
       says_it value (workflow_value x) v (written_workflow x (k.workflows.kept t x is.1))
+  upgraded_file (graph_upgrade name) texts value (t, x, e, is, v) =
+      says_it value (graph_value x) v (written_graph x (k.graphs.kept t x is.1))
   upgraded_file (plan_upgrade name None) texts value (t, x, e, is, v) =
       says_it value (plan_value x) v (written_plan x (k.plans.kept t x is.1))
   upgraded_file (plan_upgrade name (Some given)) texts value (t, s, x, q, e, is, ranks, v) =
@@ -111,6 +125,8 @@ upgrade_accepted (tree_upgrade name) texts value (t, x, e, is, v) =
     subst (AreAccepted (upgrade_files (tree_upgrade name)) []) (sym e) ((x, is), tt)
 upgrade_accepted (workflow_upgrade name) texts value (t, x, e, is, v) =
     subst (AreAccepted (upgrade_files (workflow_upgrade name)) []) (sym e) ((x, is), tt)
+upgrade_accepted (graph_upgrade name) texts value (t, x, e, is, v) =
+    subst (AreAccepted (upgrade_files (graph_upgrade name)) []) (sym e) ((x, is), tt)
 upgrade_accepted (plan_upgrade name None) texts value (t, x, e, is, v) =
     subst (AreAccepted (upgrade_files (plan_upgrade name None)) []) (sym e) ((x, is), tt)
 upgrade_accepted (plan_upgrade name (Some given)) texts value (t, s, x, q, e, is, ranks, v) =
@@ -198,6 +214,8 @@ from_printed (tree_upgrade own) texts name printed value (t, x, e, is, v) file =
     (printed, x, refl, says printed value (tree_value x) v file, v)
 from_printed (workflow_upgrade own) texts name printed value (t, x, e, is, v) file =
     (printed, x, refl, says printed value (workflow_value x) v file, v)
+from_printed (graph_upgrade own) texts name printed value (t, x, e, is, v) file =
+    (printed, x, refl, says printed value (graph_value x) v file, v)
 from_printed (plan_upgrade own None) texts name printed value (t, x, e, is, v) file =
     (printed, x, refl, says printed value (plan_value x) v file, v)
 from_printed (plan_upgrade own (Some given)) texts name printed value (t, s, x, q, e, is, ranks, v) file =

@@ -22,8 +22,8 @@ done_answer printed = record { status = status.Done; text = printed }
 
 -- what a request says by what it printed, over the texts of its files and with the status with which it ended
 abbrev pub Says : Request → List (List ℕ) → Status → List ℕ → Type 0
--- where a peak was printed, the order is a traversal of the input's system, and the peak is its
-Says (replay input source) texts ended printed = ended ≡ status.Done → IsReport (replay input source) texts (done_answer printed)
+-- where a peak was printed, the order is a traversal of the tasks' system, and the peak is its
+Says (replay tasks source) texts ended printed = ended ≡ status.Done → IsReport (replay tasks source) texts (done_answer printed)
 -- where a tree was printed, it is the tree of the fronts of the matrix
 Says (tree matrix) texts ended printed = ended ≡ status.Done → IsReport (tree matrix) texts (done_answer printed)
 -- where a postorder was printed, it is the best postorder of the tree, and the printed peak is its

@@ -20,7 +20,7 @@ use Rattle.reports.specs.Fronts.{IsFrontsOf}
 
 -- what is answered where all files have values
 abbrev pub IsReport : Request → List (List ℕ) → Answer → Type 0
-IsReport (replay input source) texts answer = IsReplayOf input source texts answer
+IsReport (replay tasks source) texts answer = IsReplayOf tasks source texts answer
 IsReport (tree m) texts answer = (nodes : List Node) × IsMatrixTree m texts nodes × (answer ≡ tree_answer nodes)
 IsReport (post input) texts answer = (nodes : List Node) × IsTreeOf input texts nodes × IsPost nodes answer
 IsReport (check input plan workers) texts answer = IsCheckOf input texts answer

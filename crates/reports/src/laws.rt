@@ -7,13 +7,14 @@ ghost use Rattle.sp_terms.specs.declared.position.Position.{Position};
 ghost use Rattle.trees.specs.Tree.{IsTree};
 ghost use Rattle.trees.specs.declared.node.Node.{Node};
 ghost use Rattle.reports.specs.Reports.{IsAnswer, IsDecided};
-ghost use Rattle.judging.specs.Files.{Answer, HasValue, IsRefusedInRole, IsSystemOf, IsOrderedMatrix, IsSystemWithTerm, IsTreeOf};
+ghost use Rattle.judging.specs.Files.{Answer, HasValue, IsRefusedInRole, IsSystemOf, IsOrderedMatrix, IsSystemWithTerm, IsTaskSystemOf, IsTreeOf};
 ghost use Rattle.reports.specs.Demo.{IsDemoOf, IsShown};
 ghost use Rattle.judging.specs.Judged.{AreWithin};
 ghost use Rattle.reports.specs.Fronts.{IsFactored, IsFrontsOf};
 ghost use Rattle.reports.specs.Promises.{IsPossible, Says};
 ghost use Rattle.requests.specs.Request.{FileRole, IsInRange, IsMakeable, Input, OrderedMatrix, Ordering, Request, TreeInput, Upgrade};
-ghost use Rattle.requests.specs.Request.{input_files, tree_input_files, upgrade};
+ghost use Rattle.requests.specs.Request.{TaskSource, input_files, task_files, tree_input_files, upgrade};
+ghost use Rattle.shared_systems.specs.Shared.{SharedTaskSystem};
 ghost use Rattle.judging.specs.Numbered.{IsNumberedTerm};
 ghost use Rattle.reports.specs.Upgrade.{IsFileOf, IsUpgradedFrom, Versioned, text_2, upgrade_again};
 ghost use Rattle.requests.specs.declared.commands.demo.Demo.{Demo};
@@ -31,6 +32,8 @@ use patterns::laws as pattern_laws;
 use plan_files::laws as plan_laws;
 use postorder_best::laws as postorder_laws;
 use rounds_run::laws as rounds_laws;
+use shared_graph_files::laws as shared_graph_laws;
+use shared_systems::laws as shared_laws;
 use sp_cuts::laws as stair_laws;
 use sp_reduce::laws as reduction_laws;
 use sp_terms::laws as term_laws;
@@ -40,7 +43,7 @@ use trees::laws as tree_laws;
 use workflow_files::laws as workflow_laws;
 
 // The texts of an input are of one matrix, one tree, one system and one term, within the limits, and they are as many as its files; its
-// positions have one numbering.
+// positions have one numbering. Those of tasks are of one system, and as many as their files.
 fn one_input()
     ensures matrix { (o : Ordering) (texts rows other : List (List ℕ)) (order same : List ℕ) → IsOrderedMatrix o texts rows order →
         IsOrderedMatrix o texts other same → (rows ≡ other) × (order ≡ same) × IsPattern rows × (length order ≡ length rows) }
@@ -49,6 +52,8 @@ fn one_input()
     ensures system { (input : Input) (texts : List (List ℕ)) (one two : TaskSystem)
         → IsSystemOf input texts one → IsSystemOf input texts two →
         (one ≡ two) × IsSystem one × (length texts ≡ length (input_files input)) }
+    ensures tasks { (source : TaskSource) (texts : List (List ℕ)) (one two : SharedTaskSystem)
+        → IsTaskSystemOf source texts one → IsTaskSystemOf source texts two → (one ≡ two) × (length texts ≡ length (task_files source)) }
     ensures term { (input : Input) (texts : List (List ℕ)) (system same : TaskSystem) (one two : List Position) →
         IsSystemWithTerm input texts system one → IsSystemWithTerm input texts same two → one ≡ two }
     ensures numbered { (input : Input) (texts : List (List ℕ)) (one two : List Position) (numbered same : List ℕ) →
@@ -68,6 +73,7 @@ fn one_input()
     workflow_laws::exactly_one();
     workflow_laws::read_law();
     term_laws::terms_law();
+    shared_graph_laws::exactly_one();
 }
 
 // A file is accepted or refused, never both, and refused with one answer.
@@ -85,6 +91,7 @@ fn one_file()
     matrix_file_laws::exactly_one_perm();
     plan_laws::exactly_one();
     graph_file_laws::exactly_one();
+    shared_graph_laws::exactly_one();
 }
 
 // A demo has one answer: plans may differ, but not their peak; the checker says yes to them, and no traversal has a lower peak.
@@ -120,6 +127,10 @@ fn one_upgrade()
     workflow_laws::read_law();
     workflow_laws::printed_workflow();
     workflow_laws::printed_length();
+    shared_graph_laws::exactly_one();
+    shared_graph_laws::read_law();
+    shared_graph_laws::printed_law();
+    shared_graph_laws::printed_length();
     plan_laws::exactly_one();
     plan_laws::read_law();
     plan_laws::printed_plan();
@@ -166,6 +177,7 @@ pub fn one_answer()
     plan_laws::exactly_one();
     plan_laws::read_law();
     system_laws::traversal_law();
+    shared_laws::order_law();
     postorder_laws::one_best_postorder();
     claim_laws::accepted_or_objected();
     run_laws::schedule_law();
@@ -201,7 +213,7 @@ pub fn what_answers_say()
     one_fronts();
 }
 
-/// A file that `upgrade` wrote, as `print_tree_2`, `print_workflow_2` or `print_plan_2` prints it, stays as it is: `upgrade` of it, with no
+/// A file that `upgrade` wrote, as `print_tree_2`, `print_workflow_2`, `print_shared_graph` or `print_plan_2` prints it, stays as it is: `upgrade` of it, with no
 /// priority, writes the same bytes, and nothing else.
 pub fn upgraded_again()
     ensures same { (u : Upgrade) (texts : List (List ℕ)) (name : List ℕ) (answer : Answer) →

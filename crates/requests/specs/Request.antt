@@ -9,7 +9,7 @@ use Rattle.assembly_tree.specs.declared.front.Shape.{Shape}
 use Rattle.assembly_tree.specs.declared.front.Shape.TheVariants as shapes
 use Rattle.symbolic.specs.declared.options.FrontOptions.{FrontOptions}
 use Rattle.command_line.specs.Words.{Given, value_of}
-use Rattle.requests.specs.Options.{matrix_options, tree_names}
+use Rattle.requests.specs.Options.{matrix_options, tree_names, input_names}
 use Rattle.requests.specs.declared.commands.demo.Demo.{Demo}
 use Rattle.requests.specs.declared.commands.demo.Demo.TheVariants as demos
 
@@ -43,6 +43,11 @@ pub data Input : Type 0 where
   tree_input : TreeInput → Input
   workflow_named : List ℕ → Input
 
+-- what tasks are read from: an input, or a task graph, of which no term is asked, by the name of its file
+pub data TaskSource : Type 0 where
+  input_tasks : Input → TaskSource
+  graph_tasks : List ℕ → TaskSource
+
 -- what an order of tasks is read from: an order file, or a plan file, by its name
 pub data OrderSource : Type 0 where
   order_named : List ℕ → OrderSource
@@ -61,16 +66,17 @@ pub data PlanFormat : Type 0 where
   as_file : PlanFormat
   as_json : PlanFormat
 
--- what is written as version 2: a tree, a workflow or a plan, by the name of its file
+-- what is written as version 2: a tree, a workflow, a task graph or a plan, by the name of its file
 pub data Upgrade : Type 0 where
   tree_upgrade : List ℕ → Upgrade
   workflow_upgrade : List ℕ → Upgrade
+  graph_upgrade : List ℕ → Upgrade
   -- with the name of a priority file, whose priority stands in place of the plan's
   plan_upgrade : List ℕ → Option (List ℕ) → Upgrade
 
 pub data Request : Type 0 where
-  -- the peak of the input's system in an order
-  replay : Input → OrderSource → Request
+  -- the peak of the tasks in an order
+  replay : TaskSource → OrderSource → Request
   -- the tree of a matrix
   tree : Matrix → Request
   -- the best postorder of a tree, and its peak
@@ -167,6 +173,14 @@ input_named (Some name) options = if gives_any tree_names options then None else
 abbrev pub input_of : List Given → Option Input
 input_of options = input_named (value_of (codes "workflow") options) options
 
+-- an input; or a task graph, without any option of these
+abbrev pub tasks_named : Option (List ℕ) → List Given → Option TaskSource
+tasks_named None options = option_map input_tasks (input_of options)
+tasks_named (Some name) options = if gives_any input_names options then None else Some (graph_tasks name)
+
+abbrev pub tasks_of : List Given → Option TaskSource
+tasks_of options = tasks_named (value_of (codes "graph") options) options
+
 -- ---- what several commands ask for
 
 -- an order file or a plan file, not both
@@ -216,7 +230,9 @@ format_of true = as_json
 pub data FileRole : Type 0 where
   tree_file : FileRole
   workflow_file : FileRole
+  -- a task graph of version 1, or one of either version
   graph_file : FileRole
+  shared_graph_file : FileRole
   -- a matrix whose rows are to be eliminated in this order
   matrix_file : Ordering → FileRole
   perm_file : FileRole
@@ -249,6 +265,10 @@ abbrev pub input_files : Input → List NamedFile
 input_files (tree_input i) = tree_input_files i
 input_files (workflow_named name) = record { role = workflow_file; name = name } ∷ []
 
+abbrev pub task_files : TaskSource → List NamedFile
+task_files (input_tasks input) = input_files input
+task_files (graph_tasks name) = record { role = shared_graph_file; name = name } ∷ []
+
 abbrev pub source_file : OrderSource → NamedFile
 source_file (order_named name) = record { role = order_file; name = name }
 source_file (plan_named name) = record { role = plan_file; name = name }
@@ -261,11 +281,12 @@ priority_files role (Some name) = record { role = role; name = name } ∷ []
 abbrev pub upgrade_files : Upgrade → List NamedFile
 upgrade_files (tree_upgrade name) = record { role = tree_file; name = name } ∷ []
 upgrade_files (workflow_upgrade name) = record { role = workflow_file; name = name } ∷ []
+upgrade_files (graph_upgrade name) = record { role = shared_graph_file; name = name } ∷ []
 upgrade_files (plan_upgrade name priority) = record { role = plan_file; name = name } ∷ priority_files plan_priority_file priority
 
 -- the files of a request, in the order in which they are read and judged
 abbrev pub files_of : Request → List NamedFile
-files_of (replay input source) = input_files input ++ source_file source ∷ []
+files_of (replay tasks source) = task_files tasks ++ source_file source ∷ []
 files_of (tree m) = matrix_files m
 files_of (post input) = tree_input_files input
 files_of (check input plan workers) = input_files input ++ source_file (plan_named plan) ∷ []

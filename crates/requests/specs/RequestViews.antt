@@ -16,6 +16,8 @@ use Rattle.requests.specs.declared.request.Request.TheVariants as commands
 use Rattle.requests.specs.declared.commands.simulate.Simulation.{Simulation}
 use Rattle.requests.specs.declared.commands.upgrade.Upgrade.{Upgrade}
 use Rattle.requests.specs.declared.commands.upgrade.Upgrade.TheVariants as upgrades
+use Rattle.requests.specs.declared.request.TaskSource.{TaskSource}
+use Rattle.requests.specs.declared.request.TaskSource.TheVariants as tasks
 use Rattle.requests.specs.declared.request.TreeInput.{TreeInput}
 use Rattle.requests.specs.declared.request.TreeInput.TheVariants as trees
 
@@ -38,6 +40,10 @@ abbrev pub input_view : Input → requests.Input
 input_view (inputs.Tree input) = requests.tree_input (tree_input_view input)
 input_view (inputs.Workflow name) = requests.workflow_named name.now
 
+abbrev pub tasks_view : TaskSource → requests.TaskSource
+tasks_view (tasks.Input input) = requests.input_tasks (input_view input)
+tasks_view (tasks.Graph name) = requests.graph_tasks name.now
+
 abbrev pub source_view : OrderSource → requests.OrderSource
 source_view (sources.Order name) = requests.order_named name.now
 source_view (sources.Plan name) = requests.plan_named name.now
@@ -52,10 +58,11 @@ format_view formats.Json = requests.as_json
 abbrev pub upgrade_view : Upgrade → requests.Upgrade
 upgrade_view (upgrades.Tree name) = requests.tree_upgrade name.now
 upgrade_view (upgrades.Workflow name) = requests.workflow_upgrade name.now
+upgrade_view (upgrades.Graph name) = requests.graph_upgrade name.now
 upgrade_view (upgrades.Plan name priority) = requests.plan_upgrade name.now (option_map (λ s. s.now) priority)
 
 abbrev pub request_view : Request → requests.Request
-request_view (commands.Replay r) = requests.replay (input_view r.input) (source_view r.source)
+request_view (commands.Replay r) = requests.replay (tasks_view r.tasks) (source_view r.source)
 request_view (commands.Tree m) = requests.tree (matrix_view m)
 request_view (commands.Post input) = requests.post (tree_input_view input)
 request_view (commands.Check c) = requests.check (input_view c.input) c.plan.now c.workers

@@ -5,14 +5,14 @@ use Rattle.std.specs.Prelude.{find, map}
 use Rattle.std.specs.Prelude.{String, string_bytes}
 use Rattle.requests.specs.Request.{Request, check, input_of, workers_or_one, demo, gives_any, number_given, number_up_to}
 use Rattle.requests.specs.Request.{fronts, ordering_of, planning, is_second, format_of}
-use Rattle.requests.specs.Request.{post, tree_input_of, reduce, replay, source_of, segments}
+use Rattle.requests.specs.Request.{post, tree_input_of, reduce, replay, tasks_of, source_of, segments}
 use Rattle.requests.specs.Request.{simulate, spill, tree, matrix_of}
-use Rattle.requests.specs.Request.{upgrade, Upgrade, tree_upgrade, workflow_upgrade, plan_upgrade}
+use Rattle.requests.specs.Request.{upgrade, Upgrade, tree_upgrade, workflow_upgrade, graph_upgrade, plan_upgrade}
 use Rattle.std.specs.Str.{bytes_eq}
 use Rattle.command_line.specs.Words.{Given, Shape, value_of, Line, line_of}
 use Rattle.limits.specs.Limits.{most_tasks, most_mindeg, most_workers}
 use Rattle.requests.specs.declared.commands.demo.Demo.{Demo}
-use Rattle.requests.specs.Options.{matrix_names, tree_names, input_names}
+use Rattle.requests.specs.Options.{matrix_names, tree_names, input_names, task_names}
 use Rattle.requests.specs.declared.commands.demo.Demo.TheVariants as demos
 
 -- `check`, one input, `--plan NAME`, and `--workers N` if it is given
@@ -90,12 +90,12 @@ post_of options = option_map post (tree_input_of options)
 abbrev pub reduce_of : List Given → Option Request
 reduce_of options = option_map reduce (value_of (codes "graph") options)
 
--- `replay`, one input, and `--order NAME` or `--plan NAME`
+-- `replay`, one input or task graph, and `--order NAME` or `--plan NAME`
 abbrev pub replay_of : List Given → Option Request
 replay_of options =
-    option_and_then (λ input.
-    option_map (replay input) (source_of (value_of (codes "order") options) (value_of (codes "plan") options)))
-    (input_of options)
+    option_and_then (λ tasks.
+    option_map (replay tasks) (source_of (value_of (codes "order") options) (value_of (codes "plan") options)))
+    (tasks_of options)
 
 -- `segments` and one input
 abbrev pub segments_of : List Given → Option Request
@@ -127,19 +127,20 @@ spill_of options =
 abbrev pub tree_request_of : List Given → Option Request
 tree_request_of options = option_and_then (λ name. option_map tree (matrix_of name options)) (value_of (codes "matrix") options)
 
--- exactly one of a tree, a workflow and a plan, and a priority with a plan alone; by the names that are given for them
-abbrev pub upgrade_named : Option (List ℕ) → Option (List ℕ) → Option (List ℕ) → Option (List ℕ) → Option Upgrade
-upgrade_named (Some name) None None None = Some (tree_upgrade name)
-upgrade_named None (Some name) None None = Some (workflow_upgrade name)
-upgrade_named None None (Some name) priority = Some (plan_upgrade name priority)
-upgrade_named of_tree of_workflow of_plan priority = None
+-- exactly one of a tree, a workflow, a graph and a plan, and a priority with a plan alone; by the names that are given for them
+abbrev pub upgrade_named : Option (List ℕ) → Option (List ℕ) → Option (List ℕ) → Option (List ℕ) → Option (List ℕ) → Option Upgrade
+upgrade_named (Some name) None None None None = Some (tree_upgrade name)
+upgrade_named None (Some name) None None None = Some (workflow_upgrade name)
+upgrade_named None None (Some name) None None = Some (graph_upgrade name)
+upgrade_named None None None (Some name) priority = Some (plan_upgrade name priority)
+upgrade_named of_tree of_workflow of_graph of_plan priority = None
 
--- `upgrade` and `--tree NAME`, `--workflow NAME` or `--plan NAME`, with `--priority NAME` after a plan if it is given
+-- `upgrade` and `--tree NAME`, `--workflow NAME`, `--graph NAME` or `--plan NAME`, with `--priority NAME` after a plan if it is given
 abbrev pub upgrade_of : List Given → Option Request
 upgrade_of options =
     option_map upgrade
-    (upgrade_named (value_of (codes "tree") options) (value_of (codes "workflow") options) (value_of (codes "plan") options)
-    (value_of (codes "priority") options))
+    (upgrade_named (value_of (codes "tree") options) (value_of (codes "workflow") options) (value_of (codes "graph") options)
+    (value_of (codes "plan") options) (value_of (codes "priority") options))
 
 -- ---- the table
 
@@ -151,7 +152,7 @@ pub record Command : Type 0 where
 
 abbrev pub commands : List Command
 commands =
-    record { name = codes "replay"; options = codes "order" ∷ codes "plan" ∷ input_names; asks = replay_of }
+    record { name = codes "replay"; options = codes "order" ∷ codes "plan" ∷ task_names; asks = replay_of }
     ∷ record { name = codes "tree"; options = matrix_names; asks = tree_request_of }
     ∷ record { name = codes "post"; options = tree_names; asks = post_of }
     ∷ record { name = codes "check"; options = codes "plan" ∷ codes "workers" ∷ input_names; asks = check_of }
@@ -168,7 +169,7 @@ commands =
     }
     ∷ record {
       name = codes "upgrade";
-      options = codes "tree" ∷ codes "workflow" ∷ codes "plan" ∷ codes "priority" ∷ [];
+      options = codes "tree" ∷ codes "workflow" ∷ codes "graph" ∷ codes "plan" ∷ codes "priority" ∷ [];
       asks = upgrade_of;
     }
     ∷ record { name = codes "spill"; options = codes "order" ∷ codes "plan" ∷ codes "bound" ∷ input_names; asks = spill_of }

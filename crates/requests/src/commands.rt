@@ -26,7 +26,7 @@ use std::alloc::{AllocError, Global};
 static COMMANDS: [Shape; 12] = [
     Shape {
         name: "replay",
-        options: &[&["order", "plan"], INPUT, MATRIX_OPTIONS],
+        options: &[&["order", "plan", "graph"], INPUT, MATRIX_OPTIONS],
     },
     Shape {
         name: "tree",
@@ -58,7 +58,7 @@ static COMMANDS: [Shape; 12] = [
     },
     Shape {
         name: "upgrade",
-        options: &[&["tree", "workflow", "plan", "priority"]],
+        options: &[&["tree", "workflow", "graph", "plan", "priority"]],
     },
     Shape {
         name: "spill",

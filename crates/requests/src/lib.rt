@@ -1,7 +1,7 @@
 //! Words to requests: what the words after the program's name ask for.
 //!
 //! The definitions stand in specs/: `Request`, what can be asked for, with the files that it names; `Words`, the words that ask for each; the
-//! table of commands in `Table`.
+//! table of commands among them.
 #![tactic(auto)]
 
 mod commands;
@@ -16,5 +16,5 @@ pub use commands::simulate::Simulation;
 pub use commands::spill::Spilling;
 pub use commands::upgrade::Upgrade;
 pub use request::{
-    Input, Matrix, OrderSource, OrderedMatrix, Ordering, PlanFormat, Request, TreeInput,
+    Input, Matrix, OrderSource, OrderedMatrix, Ordering, PlanFormat, Request, TaskSource, TreeInput,
 };

@@ -1,9 +1,9 @@
 ghost use Rattle.std.specs.Prelude.{◌≡◌, ◌<◌, ◌≤◌, ◌^◌, IfSome, option_map};
 ghost use Rattle.requests.specs.Request.{is_second, ordering_named, ordering_of, zeros_named, matrix_of, gives_any, tree_input_of, input_of};
-ghost use Rattle.requests.specs.Request.{source_of, number_given, number_up_to, workers_or_one, AreWorkers};
+ghost use Rattle.requests.specs.Request.{tasks_of, source_of, number_given, number_up_to, workers_or_one, AreWorkers};
 ghost use Rattle.command_line.specs.Views.{texts};
-ghost use Rattle.requests.specs.Options.{matrix_options, tree_names};
-ghost use Rattle.requests.specs.RequestViews.{ordering_view, matrix_view, tree_input_view, input_view, source_view};
+ghost use Rattle.requests.specs.Options.{matrix_options, tree_names, input_names};
+ghost use Rattle.requests.specs.RequestViews.{ordering_view, matrix_view, tree_input_view, input_view, tasks_view, source_view};
 
 use crate::commands::check::Check;
 use crate::commands::demo::Demo;
@@ -59,6 +59,13 @@ pub enum Input<'a> {
     Workflow(&'a str),
 }
 
+/// What tasks are read from: an input, or a task graph, by the name of its file.
+#[derive(Clone, Copy, Debug)]
+pub enum TaskSource<'a> {
+    Input(Input<'a>),
+    Graph(&'a str),
+}
+
 /// What an order of tasks is read from: an order file, or a plan file, by its name.
 #[derive(Clone, Copy, Debug)]
 pub enum OrderSource<'a> {
@@ -78,7 +85,7 @@ pub enum PlanFormat {
 /// What the words ask for.
 #[derive(Clone, Copy, Debug)]
 pub enum Request<'a> {
-    /// The peak of the input's system in the order.
+    /// The peak of the tasks in the order.
     Replay(Replay<'a>),
     /// The tree of a matrix.
     Tree(Matrix<'a>),
@@ -244,6 +251,28 @@ pub fn input_of<'a>(line: &Line<'a>) -> Option<Input<'a>>
         None
     } else {
         Some(Input::Workflow(name))
+    }
+}
+
+// Whether an input or an option of a matrix is given.
+fn has_input_option(line: &Line<'_>) -> bool
+    ensures { result ≡ gives_any input_names line.now.options }
+{
+    gives_any(INPUT, line) || has_matrix_option(line)
+}
+
+/// An input, or a task graph.
+pub fn tasks_of<'a>(line: &Line<'a>) -> Option<TaskSource<'a>>
+    ensures { option_map tasks_view result ≡ tasks_of line.now.options }
+{
+    let Some(name) = line.value("graph") else {
+        let input = input_of(line)?;
+        return Some(TaskSource::Input(input));
+    };
+    if has_input_option(line) {
+        None
+    } else {
+        Some(TaskSource::Graph(name))
     }
 }
 

@@ -44,6 +44,8 @@ use Rattle.reports.specs.Promises.{Says, done_answer as done}
 use Rattle.reports.specs.Clauses.{IsAnswered}
 use Rattle.reports.specs.Samples.Graphs.{bridge}
 use Rattle.reports.specs.Samples.Plans.{system, positions, plan, claims, is_not_cut, nothing_is_a_traversal, yes_to_the_plan, another_peak}
+use Rattle.reports.specs.Samples.Plans.{nothing_is_a_shared_traversal}
+use Rattle.shared_systems.specs.OneReader.{shared_of}
 
 -- ---- reports
 
@@ -139,10 +141,10 @@ refused_lines = refl
 
 -- ---- answers: over one item of data of size 3, which has no task
 
-pub replayed : IsReplayAnswer system [] (peak_answer 3)
-replayed = inl (nothing_is_a_traversal, refl)
+pub replayed : IsReplayAnswer (shared_of system) [] (peak_answer 3)
+replayed = inl (nothing_is_a_shared_traversal, refl)
 
-pub replayed_without_task_1 : IsReplayAnswer system (1 ∷ []) (order_refused 1 Unknown)
+pub replayed_without_task_1 : IsReplayAnswer (shared_of system) (1 ∷ []) (order_refused 1 Unknown)
 replayed_without_task_1 = inr (1, Unknown, refl, refl)
 
 pub checked : IsCheck system positions (plan claims [] 3) (verdict_answer (Yes 3))

@@ -7,6 +7,9 @@ use Rattle.std.proofs.lemmas.List.Elements.{All-nil}
 use Rattle.mp_system.specs.declared.system.OrderKind.TheVariants.{Unknown}
 use Rattle.mp_system.specs.System.{TaskSystem, IsTask}
 use Rattle.mp_system.specs.Traversal.{IsTraversal}
+use Rattle.shared_systems.specs.Shared.{HasTask}
+use Rattle.shared_systems.specs.SharedTraversal.{IsSharedTraversal}
+use Rattle.shared_systems.specs.OneReader.{shared_of}
 use Rattle.sp_terms.specs.declared.position.Position.{Position}
 use Rattle.sp_terms.specs.declared.position.Position.TheVariants.{Hold}
 use Rattle.sp_terms.specs.declared.position.Position.TheVariants as at
@@ -67,6 +70,14 @@ pub nothing_is_a_traversal : IsTraversal system []
 nothing_is_a_traversal = record {
   once = λ v task. absurd (not-suc-le-zero (le_trans (task.0) (task.1)));
   tasks = All-nil (IsTask system);
+  after_suppliers = λ before rest v same. absurd (is_not_cut before rest v same);
+}
+
+-- and as tasks, which is how `replay` has them
+pub nothing_is_a_shared_traversal : IsSharedTraversal (shared_of system) []
+nothing_is_a_shared_traversal = record {
+  once = λ v task. absurd (not-suc-le-zero (le_trans (task.0) (task.1)));
+  tasks = All-nil (HasTask (shared_of system));
   after_suppliers = λ before rest v same. absurd (is_not_cut before rest v same);
 }
 

@@ -6,9 +6,9 @@ use Rattle.assembly_tree.specs.declared.front.Shape.TheVariants.{Triangle, Squar
 use Rattle.requests.specs.declared.commands.demo.Demo.TheVariants as demos
 use Rattle.requests.specs.Request.{Request, Input, tree_input, tree_named, matrix_named, workflow_named, Matrix, natural, min_degree}
 use Rattle.requests.specs.Request.{perm_named, order_named, plan_named, replay, tree, post, check, planning, as_file, as_json, simulate}
-use Rattle.requests.specs.Request.{demo, upgrade, tree_upgrade, plan_upgrade, spill, segments, fronts, reduce, files_of, FileRole, tree_file}
+use Rattle.requests.specs.Request.{demo, upgrade, tree_upgrade, graph_upgrade, plan_upgrade, spill, segments, fronts, reduce, files_of, FileRole, tree_file}
 use Rattle.requests.specs.Request.{workflow_file, graph_file, matrix_file, perm_file, order_file, plan_file, priority_file}
-use Rattle.requests.specs.Request.{plan_priority_file, NamedFile}
+use Rattle.requests.specs.Request.{plan_priority_file, NamedFile, input_tasks, graph_tasks, shared_graph_file}
 use Rattle.requests.specs.Words.{request_of, AsksNothing}
 
 -- what the words of a line ask for
@@ -27,8 +27,10 @@ a_matrix = record { name = codes "m"; ordering = natural; fronts = record { shap
 
 -- ---- each command
 
-pub replay_asked : asked (codes "replay --tree t --order o") ∷ asked (codes "replay --plan=p --workflow=w") ∷ []
-    ≡ Some (replay a_tree (order_named (codes "o"))) ∷ Some (replay a_workflow (plan_named (codes "p"))) ∷ []
+pub replay_asked :
+    asked (codes "replay --tree t --order o") ∷ asked (codes "replay --plan=p --workflow=w") ∷ asked (codes "replay --graph g --order o") ∷ []
+    ≡ Some (replay (input_tasks a_tree) (order_named (codes "o"))) ∷ Some (replay (input_tasks a_workflow) (plan_named (codes "p")))
+    ∷ Some (replay (graph_tasks (codes "g")) (order_named (codes "o"))) ∷ []
 unfolding tokens_of
 replay_asked = refl
 
@@ -71,8 +73,9 @@ pub demo_asked :
 unfolding tokens_of number_of number_from
 demo_asked = refl
 
-pub upgrade_asked : asked (codes "upgrade --tree t") ∷ asked (codes "upgrade --plan p --priority r") ∷ []
-    ≡ Some (upgrade (tree_upgrade (codes "t"))) ∷ Some (upgrade (plan_upgrade (codes "p") (Some (codes "r")))) ∷ []
+pub upgrade_asked :
+    asked (codes "upgrade --tree t") ∷ asked (codes "upgrade --graph g") ∷ asked (codes "upgrade --plan p --priority r") ∷ []
+    ≡ Some (upgrade (tree_upgrade (codes "t"))) ∷ Some (upgrade (graph_upgrade (codes "g"))) ∷ Some (upgrade (plan_upgrade (codes "p") (Some (codes "r")))) ∷ []
 unfolding tokens_of
 upgrade_asked = refl
 
@@ -95,13 +98,14 @@ reduce_asked = refl
 
 -- ---- words that ask for nothing
 
--- no words; help; no order; an order and a plan; two inputs; an option of matrices with a tree; no worker; two orders of elimination;
+-- no words; help; no order; an order and a plan; a tree and a graph; two inputs; an option of matrices with a tree; no worker; two orders of elimination;
 -- 90,000 vertices of a grid; a priority without a plan
 pub nothing_asked :
     map asked
     ([] ∷ codes "--help"
     ∷ codes "replay --tree t"
     ∷ codes "replay --tree t --order o --plan p"
+    ∷ codes "replay --tree t --graph g --order o"
     ∷ codes "plan --tree t --workflow w"
     ∷ codes "plan --tree t --shape square"
     ∷ codes "check --tree t --plan p --workers 0"
@@ -109,7 +113,7 @@ pub nothing_asked :
     ∷ codes "demo --kind grid --rows 300 --cols 300"
     ∷ codes "upgrade --tree t --priority r"
     ∷ [])
-    ≡ None ∷ None ∷ None ∷ None ∷ None ∷ None ∷ None ∷ None ∷ None ∷ None ∷ []
+    ≡ None ∷ None ∷ None ∷ None ∷ None ∷ None ∷ None ∷ None ∷ None ∷ None ∷ None ∷ []
 unfolding tokens_of number_of number_from
 nothing_asked = refl
 
@@ -130,13 +134,15 @@ files_of_a_run = refl
 pub files_of_others :
     map files_of
     (fronts (record { name = codes "m"; ordering = perm_named (codes "q") }) 4 2
-    ∷ replay a_workflow (order_named (codes "o"))
+    ∷ replay (input_tasks a_workflow) (order_named (codes "o"))
+    ∷ replay (graph_tasks (codes "g")) (order_named (codes "o"))
     ∷ upgrade (plan_upgrade (codes "p") (Some (codes "r")))
     ∷ reduce (codes "g")
     ∷ demo (demos.Grid 2 3)
     ∷ [])
     ≡ (file (matrix_file (perm_named (codes "q"))) (codes "m") ∷ file perm_file (codes "q") ∷ [])
     ∷ (file workflow_file (codes "w") ∷ file order_file (codes "o") ∷ [])
+    ∷ (file shared_graph_file (codes "g") ∷ file order_file (codes "o") ∷ [])
     ∷ (file plan_file (codes "p") ∷ file plan_priority_file (codes "r") ∷ [])
     ∷ (file graph_file (codes "g") ∷ [])
     ∷ [] ∷ []

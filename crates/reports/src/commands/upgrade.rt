@@ -1,7 +1,7 @@
-//! `upgrade`: a tree, a workflow or a plan, written as version 2.
+//! `upgrade`: a tree, a workflow, a task graph or a plan, written as version 2.
 
 ghost use Rattle.std.specs.Prelude.{◌≡◌, ◌≤◌, ℕ, List, [], IfOk, option_map};
-ghost use Rattle.reports.specs.Upgrade.{IsUpgradedFrom, tree_value, workflow_value, plan_value, upgrade_answer};
+ghost use Rattle.reports.specs.Upgrade.{IsUpgradedFrom, tree_value, workflow_value, graph_value, plan_value, upgrade_answer};
 ghost use Rattle.judging.specs.Files.{IsFirstRefusal};
 ghost use Rattle.judging.specs.Judged.{AreJudged};
 ghost use Rattle.reports.specs.Reported.{IsReported};
@@ -10,13 +10,16 @@ ghost use Rattle.requests.specs.Request.{upgrade, plan_upgrade, upgrade_files};
 ghost use Rattle.requests.specs.RequestViews.{upgrade_view};
 
 use judging::{
-    Page, PageKind, PlanFile, Priority, Stop, TreeFile, WorkflowFile, judge, judge_priority,
+    Page, PageKind, PlanFile, Priority, SharedGraphFile, Stop, TreeFile, WorkflowFile, judge,
+    judge_priority,
 };
 use mp_outside::Files;
 use mp_text::Report;
 use plan_files::print_plan_2;
 use plans::Plan;
 use requests::Upgrade;
+use shared_graph_files::print_shared_graph;
+use shared_systems::SharedSystem;
 use sp_terms::TermList;
 use std::alloc::{AllocError, Global};
 use tree_files::print_tree_2;
@@ -39,6 +42,15 @@ fn workflow_2_page(alloc: Global, terms: &TermList) -> Result<Page, AllocError>
 {
     let mut report = Report::new(alloc);
     print_workflow_2(terms, &mut report)?;
+    let kind = PageKind::Done;
+    Ok(Page { kind, report })
+}
+
+fn graph_2_page(alloc: Global, system: &SharedSystem) -> Result<Page, AllocError>
+    ensures { IfOk result (λ page. answer_of page ≡ upgrade_answer (graph_value system.now)) }
+{
+    let mut report = Report::new(alloc);
+    print_shared_graph(system, &mut report)?;
     let kind = PageKind::Done;
     Ok(Page { kind, report })
 }
@@ -94,6 +106,10 @@ pub fn report_upgrade<F: Files>(
         Upgrade::Workflow(name) => {
             let terms = judge(alloc, files, name, &WorkflowFile)?;
             Ok(workflow_2_page(alloc, &terms)?)
+        }
+        Upgrade::Graph(name) => {
+            let system = judge(alloc, files, name, &SharedGraphFile)?;
+            Ok(graph_2_page(alloc, &system)?)
         }
         Upgrade::Plan(name, priority) => {
             let plan = judge_plan(alloc, files, name, priority)?;

@@ -1,5 +1,5 @@
 use Rattle.std.proofs.Common.{[], ◌∷◌, arith}
-use Rattle.judging.specs.Judged.{IsRefusedSource}
+use Rattle.judging.specs.Judged.{IsRefusedSource, IsProblemOf}
 use Rattle.requests.specs.Request.{input_files, source_file}
 use Rattle.requests.specs.RequestViews.{input_view, source_view}
 use Rattle.judging.proofs.StepLemmas.{passed, stop_before, stop_after, told_same}
@@ -32,5 +32,7 @@ returns-clause-judged g c =
     let told = g.F.Files.bytes_of c.args.files.now in
     let now = g.F.Files.bytes_of c.judge_input.new.files in
     let source = source_view c.args.source in
-    ordered told (input_view c.args.input) source c.in_ok-problem.problem c.in_ok-order.order c.in_ok-problem.ensures.judged
+    let input = input_view c.args.input in
+    ordered told (input_files input) (IsProblemOf input) source c.in_ok-problem.problem c.in_ok-order.order
+    (λ texts is. problem_accepted input texts c.in_ok-problem.problem is) c.in_ok-problem.ensures.judged
     (λ texts are. c.in_ok-order.ensures.judged texts (told_same told now c.in_ok-problem.ensures.same (source_file source ∷ []) texts are))

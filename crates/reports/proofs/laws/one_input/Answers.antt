@@ -1,4 +1,4 @@
-use Rattle.reports.proofs.OneInput.{Parts, one_matrix, one_tree, one_system, one_list_of_positions, one_numbered_term}
+use Rattle.reports.proofs.OneInput.{Parts, one_matrix, one_tree, one_system, one_task_system, one_list_of_positions, one_numbered_term}
 use Rattle.reports.proofs.laws.one_input.Goals as goal
 
 pub returns : goal.returns
@@ -16,6 +16,7 @@ returns c =
       fronts = c.one_front_tree.ensures;
       front_tree = c.front_tree_is_tree.ensures;
       workflows = c.exactly_one-3.ensures.one_workflow;
+      graphs = c.exactly_one-4.ensures.one_graph;
       terms = c.read_law.ensures;
       denotes = c.terms_law.ensures.denotes;
       term_system = c.terms_law.ensures.system;
@@ -24,6 +25,7 @@ returns c =
       matrix = one_matrix parts;
       tree = one_tree parts;
       system = one_system parts;
+      tasks = one_task_system parts;
       term = one_list_of_positions parts;
       numbered = one_numbered_term parts;
     }

@@ -16,11 +16,17 @@ returns c =
         printed = c.printed_workflow.ensures.text_2;
         short = c.printed_length-2.ensures.text_2;
       };
-      plans = record {
-        one = c.exactly_one-3.ensures.one_plan;
+      graphs = record {
+        one = c.exactly_one-3.ensures.one_graph;
         kept = c.read_law-2.ensures;
+        printed = c.printed_law.ensures;
+        short = c.printed_length-3.ensures;
+      };
+      plans = record {
+        one = c.exactly_one-4.ensures.one_plan;
+        kept = c.read_law-3.ensures;
         printed = c.printed_plan.ensures.text_2;
-        short = c.printed_length-3.ensures.text_2;
+        short = c.printed_length-4.ensures.text_2;
       };
       perms = c.exactly_one_perm.ensures.one_order;
       perm = c.read_is_perm.ensures;

@@ -1,8 +1,7 @@
-use Rattle.least_peak.specs.Problem.{system_of}
-use Rattle.judging.specs.Judged.{order_tasks}
-use Rattle.requests.specs.RequestViews.{input_view}
+use Rattle.judging.specs.Judged.{order_tasks, system_of_tasks}
+use Rattle.requests.specs.RequestViews.{tasks_view}
 use Rattle.judging.proofs.StepLemmas.{passed}
-use Rattle.judging.proofs.InputLemmas.{problem_has_system}
+use Rattle.judging.proofs.InputLemmas.{tasks_have_system}
 use Rattle.reports.proofs.commands.replay.report_replay.Goals as goal
 
 pub returns-in_err-ordered-clause-told : goal.returns-in_err-ordered-clause-told
@@ -13,10 +12,10 @@ pub returns-clause-told : goal.returns-clause-told
 returns-clause-told g c = λ texts are.
     let is = c.in_ok-ordered.ensures.judged texts are in
     let ordered = c.in_ok-ordered.ordered in
-    let is_system = problem_has_system (input_view c.args.asked.input) is.mine ordered.problem is.is_problem in (
+    let is_system = tasks_have_system (tasks_view c.args.asked.tasks) is.mine ordered.tasks is.is_value in (
       is.mine,
       is.text,
-      system_of ordered.problem,
+      system_of_tasks ordered.tasks,
       order_tasks ordered.order,
       is.texts_are,
       is_system,

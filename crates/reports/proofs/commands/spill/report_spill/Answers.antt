@@ -13,7 +13,7 @@ pub returns-clause-told : goal.returns-clause-told
 returns-clause-told g c = λ texts are.
     let is = c.in_ok-ordered.ensures.judged texts are in
     let ordered = c.in_ok-ordered.ordered in
-    let is_system = problem_has_system (input_view c.args.asked.input) is.mine ordered.problem is.is_problem in (
+    let is_system = problem_has_system (input_view c.args.asked.input) is.mine ordered.problem is.is_value in (
       is.mine,
       is.text,
       system_of ordered.problem,
