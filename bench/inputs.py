@@ -103,6 +103,13 @@ class Inputs:
         make = lambda to: self.script("make_graph.py", count, to)
         return self.made(f"random_{count}.graph", make)
 
+    def shared_graph(self) -> tuple[str, str]:
+        """A graph whose items have three readers, and an order of its tasks."""
+        count = self.sizes.tasks
+        order = self.folder / f"shared_{count}.order"
+        make = lambda to: self.script("make_shared_graph.py", count, to, order)
+        return self.made(f"shared_{count}.graph", make), str(order)
+
     def matrix(self, kind: str, first: int, second: int) -> str:
         def make(to: Path) -> None:
             if kind in shapes.MATRICES:

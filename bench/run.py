@@ -10,7 +10,7 @@ and runs memplan and the peers in turn. A whole run takes some 20 minutes and 3 
 It can be stopped at any time: what is measured stands in FOLDER (bench/out), and the next run of
 the same programs goes on from there; --anew forgets it. --quick tries every line on small inputs,
 in some seconds; its figures mean nothing. --only makes some tables alone, of reading, replay,
-analysis, mindeg, post, plan, hard, check, simulate, spill, fronts, segments, reduce, growth;
+analysis, mindeg, post, plan, hard, check, simulate, spill, fronts, segments, reduce, graphs, growth;
 --growth names the numbers of tasks of the last one.
 
 Of each program the least of N turns (5) counts; a row that has taken 4 N seconds of processor time
@@ -376,6 +376,12 @@ class Tables:
         found = [(label, [["reduce", "--graph", self.inputs.graph()]])]
         return self.alone_table("reduce", "`reduce` of a graph", found, [""])
 
+    def graphs(self) -> str:
+        graph, order = self.inputs.shared_graph()
+        label = f"{self.sizes.tasks:,} tasks, each of which makes an item that three others read"
+        found = [(label, [["replay", "--graph", graph, "--order", order]])]
+        return self.alone_table("replay", "`replay` of a graph with several readers", found, [""])
+
     # growth
 
     def growth(self) -> str:
@@ -471,6 +477,7 @@ class Tables:
             "fronts": ("Fronts in rounds", self.fronts),
             "segments": ("Segments", self.segments),
             "reduce": ("Workflows of task graphs", self.reduce),
+            "graphs": ("Task graphs with several readers", self.graphs),
             "growth": ("Growth", self.growth),
         }
 

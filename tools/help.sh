@@ -3,7 +3,7 @@ commands="plan check replay post tree fronts simulate spill segments reduce upgr
 declare -A usage_of=(
     [plan]='INPUT [--print text|json]'
     [check]='INPUT --plan FILE [--workers W]'
-    [replay]='INPUT (--order FILE | --plan FILE)'
+    [replay]='(INPUT | --graph FILE) (--order FILE | --plan FILE)'
     [post]=TREE
     [tree]=MATRIX
     [fronts]='--matrix FILE [--perm FILE | --ordering natural|mindeg] --bound B --workers W'
@@ -11,13 +11,13 @@ declare -A usage_of=(
     [spill]='INPUT (--order FILE | --plan FILE) --bound B'
     [segments]=INPUT
     [reduce]='--graph FILE'
-    [upgrade]='(--tree FILE | --workflow FILE | --plan FILE [--priority FILE])'
+    [upgrade]='(--tree FILE | --workflow FILE | --graph FILE | --plan FILE [--priority FILE])'
     [demo]='(--seed S --tasks N [--kind tree|workflow] | --kind grid --rows R --cols C)'
 )
 declare -A options_of=(
     [plan]='tree workflow matrix perm ordering shape amalgamate inplace print'
     [check]='tree workflow matrix perm ordering shape amalgamate inplace plan workers'
-    [replay]='tree workflow matrix perm ordering shape amalgamate inplace order plan'
+    [replay]='tree workflow matrix perm ordering shape amalgamate inplace graph order plan'
     [post]='tree matrix perm ordering shape amalgamate inplace'
     [tree]='matrix perm ordering shape amalgamate inplace'
     [fronts]='matrix perm ordering bound workers'
@@ -25,13 +25,13 @@ declare -A options_of=(
     [spill]='tree workflow matrix perm ordering shape amalgamate inplace order plan bound'
     [segments]='tree workflow matrix perm ordering shape amalgamate inplace'
     [reduce]=graph
-    [upgrade]='tree workflow plan priority'
+    [upgrade]='tree workflow graph plan priority'
     [demo]='kind seed tasks rows cols'
 )
 declare -A one_of=(
     [plan]='tree|workflow|matrix'
     [check]='tree|workflow|matrix plan'
-    [replay]='tree|workflow|matrix order|plan'
+    [replay]='tree|workflow|matrix|graph order|plan'
     [post]='tree|matrix'
     [tree]=matrix
     [fronts]='matrix bound workers'
@@ -39,7 +39,7 @@ declare -A one_of=(
     [spill]='tree|workflow|matrix order|plan bound'
     [segments]='tree|workflow|matrix'
     [reduce]=graph
-    [upgrade]='tree|workflow|plan'
+    [upgrade]='tree|workflow|graph|plan'
     [demo]='seed|rows'
 )
 declare -A only_with=(
@@ -68,10 +68,10 @@ declare -A value_of=(
     [print]='text|json'
     [plan]=FILE
     [workers]=W
+    [graph]=FILE
     [order]=FILE
     [bound]=B
     [priority]=FILE
-    [graph]=FILE
     [kind]='tree|workflow|grid'
     [seed]=S
     [tasks]=N
@@ -166,11 +166,7 @@ END
             cat <<'END'
 memplan replay: the peak of an order
 
-usage: memplan replay INPUT (--order FILE | --plan FILE)
-INPUT is TREE, or --workflow FILE
-TREE is --tree FILE, or MATRIX
-MATRIX is --matrix FILE, with at most one of --perm and --ordering, and any of
-the others
+usage: memplan replay (INPUT | --graph FILE) (--order FILE | --plan FILE)
 
   --tree FILE                a tree file: tasks of which each leaves one block
                              to its parent, as fronts do
@@ -188,6 +184,8 @@ the others
                              to 2^40; none without it
   --inplace no|yes           with yes a front is assembled in the place of its
                              greatest child's block
+  --graph FILE               a task graph file: tasks, and the data that go
+                             from one to another
   --order FILE               an order file: the numbers of the tasks, in order,
                              from 1
   --plan FILE                a plan file, as plan prints it; its order is taken
@@ -450,17 +448,19 @@ END
             cat <<'END'
 memplan upgrade: a file as version 2 of its format
 
-usage: memplan upgrade (--tree FILE | --workflow FILE | --plan FILE [--priority
-FILE])
+usage: memplan upgrade (--tree FILE | --workflow FILE | --graph FILE | --plan
+FILE [--priority FILE])
 
   --tree FILE      a tree file: tasks of which each leaves one block to its
                    parent, as fronts do
   --workflow FILE  a workflow file: series-parallel tasks and their data
+  --graph FILE     a task graph file: tasks, and the data that go from one to
+                   another
   --plan FILE      a plan file
   --priority FILE  a ranking of the tasks, in place of the plan's
 
-Prints the file, with a share of 0 or no priority where version 1 has none.
-Write it to another file.
+Prints the file, with a share of 0, items in place of arcs, or no priority
+where version 1 has none. Write it to another file.
 
 $ memplan upgrade --tree examples/one.tree
 tree 2

@@ -12,7 +12,7 @@ _memplan() {
         --inplace) words="no yes" ;;
         --print) words="text json" ;;
         --kind) words="tree workflow grid" ;;
-        --tree | --workflow | --matrix | --perm | --plan | --order | --priority | --graph)
+        --tree | --workflow | --matrix | --perm | --plan | --graph | --order | --priority)
             compopt -o filenames 2>/dev/null
             mapfile -t COMPREPLY < <(compgen -f -- "$word")
             return
@@ -22,7 +22,7 @@ _memplan() {
             case ${COMP_WORDS[1]} in
                 plan) words="--tree --workflow --matrix --perm --ordering --shape --amalgamate --inplace --print" ;;
                 check) words="--tree --workflow --matrix --perm --ordering --shape --amalgamate --inplace --plan --workers" ;;
-                replay) words="--tree --workflow --matrix --perm --ordering --shape --amalgamate --inplace --order --plan" ;;
+                replay) words="--tree --workflow --matrix --perm --ordering --shape --amalgamate --inplace --graph --order --plan" ;;
                 post) words="--tree --matrix --perm --ordering --shape --amalgamate --inplace" ;;
                 tree) words="--matrix --perm --ordering --shape --amalgamate --inplace" ;;
                 fronts) words="--matrix --perm --ordering --bound --workers" ;;
@@ -30,7 +30,7 @@ _memplan() {
                 spill) words="--tree --workflow --matrix --perm --ordering --shape --amalgamate --inplace --order --plan --bound" ;;
                 segments) words="--tree --workflow --matrix --perm --ordering --shape --amalgamate --inplace" ;;
                 reduce) words="--graph" ;;
-                upgrade) words="--tree --workflow --plan --priority" ;;
+                upgrade) words="--tree --workflow --graph --plan --priority" ;;
                 demo) words="--kind --seed --tasks --rows --cols" ;;
             esac
             [ "$COMP_CWORD" -gt 1 ] || words="plan check replay post tree fronts simulate spill segments reduce upgrade demo"

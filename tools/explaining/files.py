@@ -9,7 +9,7 @@ KINDS = ("tree", "workflow", "graph", "matrix", "perm", "order", "plan", "priori
 FORMS = {
     "tree": "a tree file has the lines `tree 1`, `nodes N`, N lines `parent out extra time` (`tree 2`: `parent out extra share time`), and `end`",
     "workflow": "a workflow file has the lines `workflow 1`, `tasks N`, lines `data D`, `task EXTRA TIME` and `par K`, and `end`",
-    "graph": "a graph file has the lines `graph 1`, `tasks N`, N lines `extra share time`, `arcs M`, M lines `from to size`, and `end`",
+    "graph": "a graph file has the lines `graph 1`, `tasks N`, N lines `extra share time`, `arcs M`, M lines `from to size`, and `end` (`graph 2`: `items M`, M lines `size from reader reader ..`)",
     "matrix": "a matrix file begins with `%%MatrixMarket matrix coordinate FIELD SYMMETRY`, then `ROWS COLUMNS ENTRIES`",
     "perm": "a permutation file has each row from 1 on once, the first one to go first",
     "order": "an order file has the numbers of the tasks, in order, and nothing else",
@@ -73,7 +73,7 @@ class File:
         return next(int(tokens[1]) for _, tokens in self.rows() if tokens[0] == word and len(tokens) == 2)
 
     def nodes(self) -> List[Tuple[int, List[int]]]:
-        """The lines of a tree's nodes, or a graph's tasks and arcs."""
+        """The lines of a tree's nodes, or a graph's tasks, and arcs or items."""
         return [(number, [int(it) for it in tokens]) for number, tokens in islice(self.rows(), 2, None) if len(tokens) > 2 and all(map(is_number, tokens))]
 
     def place(self, number: int) -> str:

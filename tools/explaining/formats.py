@@ -40,16 +40,26 @@ def workflow_number(case: Case) -> str:
     return numbers(case, names, case.tokens[1:], case.tokens[0] == "task")
 
 
+def section_of(file: File) -> str:
+    """The word before the second part of a graph file: `arcs`, or in version 2 `items`."""
+    return "items" if next(file.rows())[1][1:] == ["2"] else "arcs"
+
+
 def graph_number(case: Case) -> str:
-    if case.tokens[0] in ("tasks", "arcs"):
+    section = section_of(case.file)
+    if case.tokens[0] in ("tasks", section):
         return numbers(case, "N", case.tokens[1:])
-    arcs = [number for number, tokens in case.file.rows() if tokens[0] == "arcs"]
-    if not arcs or case.line < arcs[0]:
+    begins = [number for number, tokens in case.file.rows() if tokens[0] == section]
+    if not begins or case.line < begins[0]:
         return numbers(case, "extra share time", case.tokens, True)
     if case.tokens == ["end"]:
-        found = sum(number > arcs[0] for number, _ in case.file.rows()) - 1
-        return f"`end` comes after {many(found, 'arc')}, and there is `arcs {case.file.stated('arcs')}` above: is that the right number?"
-    return numbers(case, "from to size", case.tokens)
+        found = sum(number > begins[0] for number, _ in case.file.rows()) - 1
+        return f"`end` comes after {many(found, section[:-1])}, and there is `{section} {case.file.stated(section)}` above: is that the right number?"
+    if section == "arcs":
+        return numbers(case, "from to size", case.tokens)
+    if len(case.tokens) == 1:
+        return "An item line is `size from`, and then the tasks that read the item: there is one number."
+    return next(f"{wrong_token(it)}." for it in case.tokens if wrong_token(it))
 
 
 # ---- trees and graphs
@@ -93,7 +103,8 @@ def tree_cycle(case: Case) -> str:
 def graph_cycle(case: Case) -> str:
     tasks = case.file.stated("tasks")
     rows = case.file.nodes()
-    arcs = [(row[0], row[1]) for _, row in rows[tasks:]]
+    ends = [row for _, row in rows[tasks:]]
+    arcs = [(row[0], row[1]) for row in ends] if section_of(case.file) == "arcs" else [(row[1], reader) for row in ends for reader in row[2:]]
     left = {task: [one for one, other in arcs if other == task and one] for task in range(1, tasks + 1)}
     while done := [task for task, before in left.items() if not any(it in left for it in before)]:
         for task in done:
@@ -118,6 +129,19 @@ def graph_arc(case: Case) -> str:
     if one == other:
         return f"The arc leads from task {one} to itself."
     return f"The arc leads from {one} to {other}, and there are {many(case.file.stated('tasks'), 'task')}."
+
+
+def graph_item(case: Case) -> str:
+    _, source, *readers = map(int, case.tokens)
+    tasks = case.file.stated("tasks")
+    for task in (source, *readers):
+        if task > tasks:
+            return f"It names task {task}, and there are {many(tasks, 'task')}."
+    if 0 in readers:
+        return "A reader is a task, from 1 on: what no task reads has no reader on its line."
+    if source in readers:
+        return f"Task {source} makes the item, and reads it too."
+    return "The readers of an item rise, and none stands twice."
 
 
 # ---- matrices
@@ -213,7 +237,7 @@ def permutation_cause(case: Case) -> str:
 def header(case: Case) -> str:
     kind = case.file.kind
     if len(case.tokens) == 2 and case.tokens[0] == kind:
-        return f"There are the versions {'1' if kind == 'graph' else '1 and 2'} of this format."
+        return f"There are the versions 1 and 2 of this format{', of which `reduce` takes 1' if kind == 'graph' else ''}."
     first = next(case.file.rows(), (case.line, []))[0]
     if case.line != first:
         return f"This line is not `{SECOND_LINES[kind]}`."
@@ -243,8 +267,10 @@ MEANINGS: Dict[str, object] = {
     "workflow not-one-term": (ONE_TERM, TERMS),
     "workflow share": SHARES,
     "graph number": graph_number,
-    "graph section": SECTIONS.format("arcs M"),
+    "graph section": SECTIONS.format("arcs M`, in version 2 `items M"),
+    "graph item": graph_item,
     "graph arc": (graph_arc, "Tasks are numbered from 1; 0 says that no task makes it, or takes it up."),
+    "graph item": "Behind the size stands the task that makes the item, or 0, and then the tasks that read it, in rising order: none twice, and not the one that makes it.",
     "graph cycle": graph_cycle,
     "graph share": SHARES,
     "matrix banner": banner,

@@ -15,6 +15,7 @@ LIMITS = {
     "total": 1_152_921_504_606_846_976,
     "time": 1_099_511_627_776,
     "arcs": 2_000_001,
+    "uses": 10_000_000,
     "steps": 10_000_000,
 }
 
@@ -25,7 +26,7 @@ def line_of_limit(file: File, limit: str) -> Optional[int]:
     for number, tokens in file.rows():
         is_arc = is_arc or tokens[0] == "arcs"
         columns = {"tree": tokens[1:3], "graph": tokens[2:3] if is_arc else tokens[:1]}.get(file.kind, tokens[1:2])
-        if limit == "total" and tokens[0] not in FORMS and tokens[0] not in ("nodes", "tasks", "arcs"):
+        if limit == "total" and tokens[0] not in FORMS and tokens[0] not in ("nodes", "tasks", "arcs", "items"):
             total += sum(int(it) for it in columns if is_number(it))
         if total > LIMITS["total"] or limit != "total" and any(is_number(it) and int(it) > LIMITS[limit] for it in tokens):
             return number
@@ -43,7 +44,7 @@ def of_limit(kind: str, limit: str, files: Dict[str, File]) -> List[str]:
     elif limit in ("size", "time"):
         means = f"A {limit} is more than 2^40, which is {LIMITS[limit]:,}."
         cause = "Take greater units: thousands of bytes, or milliseconds in place of nanoseconds."
-    number = line_of_limit(files[kind], "order" if limit == "mindeg" else limit) if kind in files and limit not in ("bytes", "steps") else None
+    number = line_of_limit(files[kind], "order" if limit == "mindeg" else limit) if kind in files and limit not in ("bytes", "uses", "steps") else None
     return [*([files[kind].place(number)] if number else []), means, cause]
 
 

@@ -5,7 +5,7 @@ from pathlib import Path
 from typing import NamedTuple
 
 from bench import BOUND, USAGE, Bench
-from models import System, rows, system_of_tree, system_of_workflow
+from models import Tasks, rows, shared_system_of_graph, system_of_tree, system_of_workflow
 from random_files import (
     changed,
     changed_tokens,
@@ -15,6 +15,7 @@ from random_files import (
     random_matrix,
     random_permutation,
     random_plan,
+    random_shared_graph,
     random_traversal,
     random_tree,
     random_workflow,
@@ -69,6 +70,9 @@ def random_setting(draw: random.Random, bench: Bench, inputs: tuple[str, ...]) -
     if kind == "graph":
         text = random_graph(draw) if draw.random() < 0.85 else example(draw, "graph")
         return Setting([("--graph", "g")], {"g": text}, [])
+    if kind == "shared graph":
+        text = draw.choice([random_shared_graph, random_shared_graph, random_graph])(draw) if draw.random() < 0.85 else example(draw, "graph")
+        return Setting([("--graph", "g")], {"g": text}, known_order(draw, text, shared_system_of_graph))
     if kind == "workflow":
         text = random_workflow(draw) if draw.random() < 0.85 else example(draw, "workflow")
         return Setting([("--workflow", "w")], {"w": text}, known_order(draw, text, system_of_workflow))
@@ -81,7 +85,7 @@ def random_setting(draw: random.Random, bench: Bench, inputs: tuple[str, ...]) -
     return Setting(options, files, known_order(draw, tree, system_of_tree) if tree else [1])
 
 
-def known_order(draw: random.Random, text: bytes, system_of: Callable[[bytes], System]) -> list[int]:
+def known_order(draw: random.Random, text: bytes, system_of: Callable[[bytes], Tasks]) -> list[int]:
     """A traversal of what this text reads as, or its numbers where it has none, as the example with a cycle."""
     system = system_of(text)
     try:
@@ -203,7 +207,7 @@ ALL_INPUTS = ("tree", "tree", "workflow", "workflow", "matrix")
 
 # A further command is a further line, here and in formats.COMMANDS.
 COMMANDS = {
-    "replay": Command(ALL_INPUTS, replay_options),
+    "replay": Command((*ALL_INPUTS, "shared graph", "shared graph"), replay_options),
     "plan": Command(ALL_INPUTS, plan_options),
     "check": Command(ALL_INPUTS, check_options),
     "simulate": Command(ALL_INPUTS, simulate_options),
@@ -214,7 +218,7 @@ COMMANDS = {
     "tree": Command(("matrix",), no_options),
     "post": Command(("tree", "tree", "matrix"), no_options),
     "demo": Command((), demo_options),
-    "upgrade": Command(("tree", "workflow"), upgrade_options),
+    "upgrade": Command(("tree", "workflow", "shared graph"), upgrade_options),
 }
 
 # Words of commands that the program may not know yet: it is then not asked for them.

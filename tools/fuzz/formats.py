@@ -10,6 +10,7 @@ MOST_TASKS = MOST_ORDER = 1_000_000
 MOST_ENTRIES = 10_000_000
 MOST_POSITIONS = 4_000_001
 MOST_ARCS = 2_000_001
+MOST_USES = 10_000_000
 MOST_MINDEG = 50_000
 MOST_WORKERS = 4_096
 
@@ -357,6 +358,14 @@ class Arc(NamedTuple):
     size: int
 
 
+class Item(NamedTuple):
+    """What task `start` makes and these tasks read."""
+
+    start: int
+    readers: list[int]
+    size: int
+
+
 class GraphTask(NamedTuple):
     line: int
     extra: int
@@ -364,9 +373,57 @@ class GraphTask(NamedTuple):
 
 
 def read_graph(text: bytes) -> int:
-    """The number of tasks."""
+    """The number of tasks of a graph of version 1."""
     page = Page("graph", text, "no-end")
     page.test(page.go_on() == [b"graph", b"1"], "header")
+    return read_graph_with_arcs(page)
+
+
+def read_graph_of_either_version(text: bytes) -> int:
+    """The number of tasks."""
+    page = Page("graph", text, "no-end")
+    return read_graph_with_arcs(page) if page.header(b"graph") == 1 else read_graph_with_items(page)
+
+
+def read_graph_with_arcs(page: Page) -> int:
+    """The number of tasks of a graph of version 1, after its first line."""
+    tasks = read_graph_tasks(page)
+    total = sum(task.extra for task in tasks)
+    most = page.section(b"arcs", "section")
+    page.limit(most <= MOST_ARCS, "arcs")
+    arcs: list[Arc] = []
+    while len(arcs) < most:
+        arcs.append(read_arc(page, len(tasks)))
+        total += arcs[-1].size
+        page.limit(total <= MOST_TOTAL, "total")
+    end_graph(page)
+    starts, ends = {arc.start for arc in arcs}, {arc.end for arc in arcs}
+    added = sum((number not in starts) + (number not in ends) for number in range(1, len(tasks) + 1))
+    page.limit(len(arcs) + added <= MOST_ARCS, "arcs")
+    judge_graph(page, tasks, [Item(start, [end] if end else [], size) for start, end, size in arcs])
+    return len(tasks)
+
+
+def read_graph_with_items(page: Page) -> int:
+    """The same of version 2."""
+    tasks = read_graph_tasks(page)
+    total = sum(task.extra for task in tasks)
+    most = page.section(b"items", "section")
+    page.limit(most <= MOST_POSITIONS, "positions")
+    items: list[Item] = []
+    uses = 0
+    while len(items) < most:
+        items.append(read_item(page, len(tasks)))
+        total += items[-1].size
+        page.limit(total <= MOST_TOTAL, "total")
+        uses += len(items[-1].readers)
+        page.limit(uses <= MOST_USES, "uses")
+    end_graph(page)
+    judge_graph(page, tasks, items)
+    return len(tasks)
+
+
+def read_graph_tasks(page: Page) -> list[GraphTask]:
     count = page.section(b"tasks", "section")
     page.limit(count <= MOST_TASKS, "tasks")
     total = 0
@@ -375,17 +432,7 @@ def read_graph(text: bytes) -> int:
         tasks.append(read_graph_task(page))
         total += tasks[-1].extra
         page.limit(total <= MOST_TOTAL, "total")
-    most = page.section(b"arcs", "section")
-    page.limit(most <= MOST_ARCS, "arcs")
-    arcs: list[Arc] = []
-    while len(arcs) < most:
-        arcs.append(read_arc(page, count))
-        total += arcs[-1].size
-        page.limit(total <= MOST_TOTAL, "total")
-    page.test(page.go_on() == [b"end"], "section")
-    page.end("section")
-    judge_graph(page, tasks, arcs)
-    return count
+    return tasks
 
 
 def read_graph_task(page: Page) -> GraphTask:
@@ -408,15 +455,31 @@ def read_arc(page: Page, count: int) -> Arc:
     return arc
 
 
-def judge_graph(page: Page, tasks: list[GraphTask], arcs: list[Arc]) -> None:
-    """Not too many arcs with those that are added, all tasks can be ordered, and the shares fit."""
-    starts, ends = {arc.start for arc in arcs}, {arc.end for arc in arcs}
-    added = sum((number not in starts) + (number not in ends) for number in range(1, len(tasks) + 1))
-    page.limit(len(arcs) + added <= MOST_ARCS, "arcs")
-    waits = [set() for _ in range(len(tasks) + 1)]
-    for arc in arcs:
-        if arc.start and arc.end:
-            waits[arc.end].add(arc.start)
+def read_item(page: Page, count: int) -> Item:
+    page.go_on()
+    values = values_of(page.tokens)
+    page.test(values is not None and len(values) >= 2, "number")
+    size, start, *readers = values or []
+    page.test(max([start, *readers]) <= count and 0 not in readers and start not in readers and readers == sorted(set(readers)), "item")
+    page.limit(size <= MOST_SIZE, "size")
+    return Item(start, readers, size)
+
+
+def end_graph(page: Page) -> None:
+    page.test(page.go_on() == [b"end"], "section")
+    page.end("section")
+
+
+def judge_graph(page: Page, tasks: list[GraphTask], items: list[Item]) -> None:
+    """All tasks can be ordered, and the shares fit what each task alone reads, and what it makes."""
+    waits: list[set[int]] = [set() for _ in range(len(tasks) + 1)]
+    taken, made = ([0] * (len(tasks) + 1) for _ in range(2))
+    for item in items:
+        made[item.start] += item.size
+        if len(item.readers) == 1:
+            taken[item.readers[0]] += item.size
+        for reader in item.readers if item.start else []:
+            waits[reader].add(item.start)
     left, is_less = set(range(1, len(tasks) + 1)), True
     while is_less:
         ready = {number for number in left if not waits[number] & left}
@@ -424,12 +487,9 @@ def judge_graph(page: Page, tasks: list[GraphTask], arcs: list[Arc]) -> None:
     if left:
         page.number = tasks[min(left) - 1].line
         page.refuse("cycle")
-    for number, task in enumerate(tasks, 1):
-        taken = sum(arc.size for arc in arcs if arc.end == number)
-        made = sum(arc.size for arc in arcs if arc.start == number)
-        if task.share > min(taken, task.extra + made):
-            page.number = task.line
-            page.refuse("share")
+    for task, own, out in zip(tasks, taken[1:], made[1:]):
+        page.number = task.line
+        page.test(task.share <= min(own, task.extra + out), "share")
 
 
 # ---- words
@@ -441,7 +501,7 @@ WITHOUT_FRONT_OPTIONS = {"fronts"}
 
 # The inputs of each command, the options that it must have, one of each group, and those that it may have.
 COMMANDS: dict[str, tuple[set[str], list[set[str]], set[str]]] = {
-    "replay": ({"tree", "workflow", "matrix"}, [{"order", "plan"}], set()),
+    "replay": ({"tree", "workflow", "matrix", "graph"}, [{"order", "plan"}], set()),
     "plan": ({"tree", "workflow", "matrix"}, [], {"print"}),
     "check": ({"tree", "workflow", "matrix"}, [{"plan"}], {"workers"}),
     "simulate": ({"tree", "workflow", "matrix"}, [{"order", "plan"}, {"bound"}, {"workers"}], {"priority"}),
@@ -452,7 +512,7 @@ COMMANDS: dict[str, tuple[set[str], list[set[str]], set[str]]] = {
     "tree": ({"matrix"}, [], set()),
     "post": ({"tree", "matrix"}, [], set()),
     "demo": (set(), [], {"kind", "seed", "tasks", "rows", "cols"}),
-    "upgrade": ({"tree", "workflow", "plan"}, [], {"priority"}),
+    "upgrade": ({"tree", "workflow", "graph", "plan"}, [], {"priority"}),
 }
 
 CHOICES = {

@@ -27,6 +27,7 @@ from bench import (
 )
 from cases import Case
 from models import (
+    SharedSystem,
     Simulation,
     System,
     children_of,
@@ -41,6 +42,7 @@ from models import (
     postorder_of,
     rest_of,
     rows,
+    shared_system_of_graph,
     system_of_term,
     system_of_tree,
     system_of_workflow,
@@ -52,7 +54,7 @@ from models import (
 KINDS = {
     "tree": "header number count parent cycle share no-end",
     "workflow": "header word number stack-short not-one-term task-count share no-end",
-    "graph": "header number section arc cycle share no-end",
+    "graph": "header number section arc item cycle share no-end",
     "matrix": "banner not-matrix array-format field symmetry size-line not-square entry index too-few too-many",
     "perm": "number range repeated count",
     "order": "number",
@@ -63,7 +65,7 @@ KINDS = {
 LIMITS = {
     "tree": "bytes tasks size total time steps",
     "workflow": "bytes tasks positions size total time steps",
-    "graph": "bytes tasks arcs size total time",
+    "graph": "bytes tasks arcs positions uses size total time",
     "matrix": "bytes order entries mindeg steps",
     "perm": "bytes",
     "order": "bytes tasks",
@@ -160,7 +162,7 @@ class Judge:
         readers = {
             "tree": formats.read_tree,
             "workflow": formats.read_workflow,
-            "graph": formats.read_graph,
+            "graph": formats.read_graph if self.words[0] == "reduce" else formats.read_graph_of_either_version,
             "order": formats.read_order,
             "plan": formats.read_plan,
         }
@@ -313,7 +315,7 @@ class Judge:
             yield "this is a summary of other tasks"
 
     def upgrade_ends(self) -> Iterator[str]:
-        kind = next(name for name in ("tree", "workflow", "plan") if name in self.options)
+        kind = next(name for name in ("tree", "workflow", "graph", "plan") if name in self.options)
         if not self.text.startswith(f"{kind} 2\n"):
             yield f"this is no {kind} of version 2"
         self.bench.write("made", self.ending.report)
@@ -324,6 +326,10 @@ class Judge:
             priority = numbers(self.file("priority")) if "priority" in self.options else old.priority
             if new != old._replace(priority=priority):
                 yield "the plan is another one"
+        elif kind == "graph":
+            old, new = shared_system_of_graph(self.file("graph")), shared_system_of_graph(self.ending.report)
+            if (new.tasks, new.items) != (old.tasks, old.items):
+                yield "the graph is another one"
         elif self.bench.run(["plan", f"--{kind}=made"]) != self.bench.run(["plan", *input_words(self.options)]):
             yield "what was upgraded has another plan"
 
@@ -342,7 +348,9 @@ def tree_of(bench: Bench, options: dict[str, str]) -> bytes:
     return bench.run(["tree", *input_words(options)]).report
 
 
-def system_of(bench: Bench, options: dict[str, str]) -> System:
+def system_of(bench: Bench, options: dict[str, str]) -> System | SharedSystem:
+    if "graph" in options:
+        return shared_system_of_graph(bench.read(options["graph"]) or b"")
     if "workflow" in options:
         return system_of_workflow(bench.read(options["workflow"]) or b"")
     return system_of_tree(tree_of(bench, options))

@@ -1,30 +1,16 @@
 """Plain models of what memplan computes: systems, their peaks, simulated runs; and the values of files that were accepted."""
 import re
 from collections import Counter
-from collections.abc import Iterator
+from collections.abc import Iterable, Iterator
 from typing import NamedTuple, Optional
 
 
-class System:
-    """Tasks with what they need, and the items between them."""
+class Tasks:
+    """Tasks, counted from 0, of which each has to wait for its suppliers."""
 
-    def __init__(self, tasks: list[tuple[int, int, int]], items: list[list]) -> None:
-        """Tasks are their extra, share and time; items are their size, the task that makes them and the one that takes them, or None."""
-        self.count = len(tasks)
-        self.first = sum(size for size, maker, _ in items if maker is None)
-        self.times = [time for _, _, time in tasks]
-        self.suppliers: list[set[int]] = [set() for _ in tasks]
-        taken, made = [0] * self.count, [0] * self.count
-        for size, maker, taker in items:
-            if maker is not None:
-                made[maker] += size
-            if taker is not None:
-                taken[taker] += size
-            if maker is not None and taker is not None:
-                self.suppliers[taker].add(maker)
-        self.items, self.taken = items, taken
-        self.needs = [extra + out - share for (extra, share, _), out in zip(tasks, made)]
-        self.gains = [out - back for out, back in zip(made, taken)]
+    def __init__(self, count: int) -> None:
+        self.count = count
+        self.suppliers: list[set[int]] = [set() for _ in range(count)]
 
     def fault(self, order: list[int]) -> Optional[str]:
         """Where and why this order of numbers from 1 is no traversal."""
@@ -39,6 +25,40 @@ class System:
                 return f"no order {place} too-early\n"
             done.add(task)
         return f"no order {len(order) + 1} missing\n" if len(done) < self.count else None
+
+    def ready(self, done: int) -> Iterator[int]:
+        """The tasks that may come next, where those of this set are done."""
+        for task in range(self.count):
+            if not done >> task & 1 and all(done >> supplier & 1 for supplier in self.suppliers[task]):
+                yield task
+
+    def traversals(self, order: tuple[int, ...] = (), done: int = 0) -> Iterator[tuple[int, ...]]:
+        """All traversals that begin with this order, whose tasks are those of the set; as numbers from 1."""
+        if len(order) == self.count:
+            yield order
+        for task in self.ready(done):
+            yield from self.traversals((*order, task + 1), done | 1 << task)
+
+
+class System(Tasks):
+    """Tasks with what they need, and the items between them."""
+
+    def __init__(self, tasks: list[tuple[int, int, int]], items: list[list]) -> None:
+        """Tasks are their extra, share and time; items are their size, the task that makes them and the one that takes them, or None."""
+        super().__init__(len(tasks))
+        self.first = sum(size for size, maker, _ in items if maker is None)
+        self.times = [time for _, _, time in tasks]
+        taken, made = [0] * self.count, [0] * self.count
+        for size, maker, taker in items:
+            if maker is not None:
+                made[maker] += size
+            if taker is not None:
+                taken[taker] += size
+            if maker is not None and taker is not None:
+                self.suppliers[taker].add(maker)
+        self.items, self.taken = items, taken
+        self.needs = [extra + out - share for (extra, share, _), out in zip(tasks, made)]
+        self.gains = [out - back for out, back in zip(made, taken)]
 
     def peak(self, order: list[int]) -> int:
         """The greatest memory along a traversal."""
@@ -132,12 +152,6 @@ class System:
         """The tasks of this set that may have come last."""
         for task in range(self.count):
             if done >> task & 1 and not any(done >> taker & 1 and task in self.suppliers[taker] for taker in range(self.count)):
-                yield task
-
-    def ready(self, done: int) -> Iterator[int]:
-        """The tasks that may come next."""
-        for task in range(self.count):
-            if not done >> task & 1 and all(done >> supplier & 1 for supplier in self.suppliers[task]):
                 yield task
 
 
@@ -306,6 +320,98 @@ def rest_of(graph: Graph) -> list[tuple[int, int]]:
                 left = left - {into[0], out[0]} | {(into[0][0], out[0][1])}
                 is_less = True
     return sorted(left)
+
+
+# ---- task graphs whose items have several readers
+
+
+class SharedItem(NamedTuple):
+    """An item with its size, the task that makes it, or None, and those that read it; tasks are counted from 0."""
+
+    size: int
+    maker: Optional[int]
+    readers: list[int]
+
+    def is_held(self, done: int) -> bool:
+        """Whether it is there where the tasks of this set are done: from the end of its maker to the end of its last reader."""
+        is_made = self.maker is None or done >> self.maker & 1
+        is_read = bool(self.readers) and all(done >> reader & 1 for reader in self.readers)
+        return bool(is_made) and not is_read
+
+
+class SharedSystem(Tasks):
+    """Tasks with what they need, and items that any number of them read."""
+
+    def __init__(self, tasks: list[tuple[int, int, int]], items: list[SharedItem]) -> None:
+        """Tasks are their extra, share and time."""
+        super().__init__(len(tasks))
+        self.tasks, self.items = tasks, items
+        for item in items:
+            for reader in item.readers if item.maker is not None else []:
+                self.suppliers[reader].add(item.maker)
+        made = [sum(item.size for item in items if item.maker == task) for task in range(self.count)]
+        self.needs = [extra + out - share for (extra, share, _), out in zip(tasks, made)]
+        # by the set of tasks that are done
+        self.memories: dict[int, int] = {}
+
+    def memory(self, done: int) -> int:
+        """What is there between tasks, where those of this set are done."""
+        if done not in self.memories:
+            self.memories[done] = sum(item.size for item in self.items if item.is_held(done))
+        return self.memories[done]
+
+    def peak(self, order: Iterable[int]) -> int:
+        """The greatest memory along a traversal."""
+        done, peak = 0, self.memory(0)
+        for number in order:
+            running = self.memory(done) + self.needs[number - 1]
+            done |= 1 << number - 1
+            peak = max(peak, running, self.memory(done))
+        return peak
+
+    def shared_items(self) -> list[SharedItem]:
+        """The items that several tasks read."""
+        return [item for item in self.items if len(item.readers) > 1]
+
+    def with_collectors(self, order: Iterable[int]) -> list[int]:
+        """A traversal in which each item that several tasks read is taken up after the last of them by a task of its own."""
+        whole, seen = [], set()
+        for number in order:
+            whole.append(number)
+            seen.add(number - 1)
+            for collector, item in enumerate(self.shared_items(), self.count + 1):
+                if number - 1 in item.readers and seen.issuperset(item.readers):
+                    whole.append(collector)
+        return whole
+
+
+def shared_system_of_graph(text: bytes) -> SharedSystem:
+    """That of a graph of either version."""
+    (_, version), (_, count), *lines = rows(text)
+    tasks = [tuple(map(int, line)) for line in lines[: int(count)]]
+    items = []
+    for line in lines[int(count) + 1 : -1]:
+        values = [int(token) for token in line]
+        size, maker, *readers = values if version == "2" else [values[2], values[0], *filter(None, [values[1]])]
+        items.append(SharedItem(size, maker - 1 if maker else None, [reader - 1 for reader in readers]))
+    return SharedSystem(tasks, items)
+
+
+def collected(system: SharedSystem) -> Graph:
+    """The graph of version 1 in which a task of its own, without need, takes up what several tasks read, and waits for all of them."""
+    tasks, arcs = list(system.tasks), []
+    for size, maker, readers in system.items:
+        start, ends = 0 if maker is None else maker + 1, [reader + 1 for reader in readers]
+        if len(ends) > 1:
+            tasks.append((0, 0, 1))
+            arcs += [(start, end, 0) for end in ends if start] + [(end, len(tasks), 0) for end in ends]
+            ends = [len(tasks)]
+        arcs.append((start, ends[0] if ends else 0, size))
+    return Graph(tasks, arcs)
+
+
+def system_of_graph(graph: Graph) -> System:
+    return System(graph.tasks, [[size, start - 1 if start else None, end - 1 if end else None] for start, end, size in graph.arcs])
 
 
 # ---- the rows of fronts

@@ -2,7 +2,7 @@
 import random
 import re
 
-from models import System
+from models import Graph, Tasks
 
 
 def small(draw: random.Random) -> int:
@@ -78,14 +78,45 @@ def random_graph(draw: random.Random) -> bytes:
     # the arcs of none that are added need not be there
     kept = [(start, end, small(draw)) for start, end in draw.sample(arcs, len(arcs)) if start or end or draw.random() < 0.9]
     taken, made = ([sum(arc[2] for arc in kept if arc[side] == name) for name in range(count + 1)] for side in (1, 0))
-    lines = []
-    for name in range(1, count + 1):
-        extra = small(draw)
-        share = draw.randint(0, min(taken[name], extra + made[name])) if draw.random() < 0.3 else 0
-        lines.append(f"{extra} {share} {draw.randrange(1, 9)}\n")
-    lines.append(f"arcs {len(kept)}\n")
-    lines += [f"{start} {end} {size}\n" for start, end, size in kept]
-    return (f"graph 1\ntasks {count}\n" + "".join(lines) + "end\n").encode()
+    tasks = [random_graph_task(draw, small(draw), taken[name], made[name]) for name in range(1, count + 1)]
+    return graph_text(Graph(tasks, kept))
+
+
+def random_graph_task(draw: random.Random, extra: int, taken: int, made: int) -> tuple[int, int, int]:
+    """Its extra, share and time, where it alone takes up so much, and makes so much."""
+    share = draw.randint(0, min(taken, extra + made)) if draw.random() < 0.3 else 0
+    return extra, share, draw.randrange(1, 9)
+
+
+def graph_text(graph: Graph) -> bytes:
+    """A file of version 1."""
+    return lines_of_graph(1, graph.tasks, "arcs", graph.arcs)
+
+
+def lines_of_graph(version: int, tasks: list[tuple[int, int, int]], word: str, between: list[tuple[int, ...]]) -> bytes:
+    """A file of tasks and of what is between them, which goes by this word."""
+    lines = [("graph", version), ("tasks", len(tasks)), *tasks, (word, len(between)), *between, ("end",)]
+    return "".join(" ".join(map(str, line)) + "\n" for line in lines).encode()
+
+
+def random_shared_graph(draw: random.Random) -> bytes:
+    """Of version 2, with a few tasks, whose numbers are in any order, and a few items, with readers in any number."""
+    count = draw.choice([0, 1, 2, 3, 4, 5, 6, 6, 7, 7, 7, 7])
+    most = draw.choice([2, 9, 99, 2**36])
+    # 0 stands for no task, before all of them
+    names = [0, *draw.sample(range(1, count + 1), count)]
+    items = []
+    for _ in range(draw.choice([0, 1, 2, 3, 4, 5, 6, 7, 7])):
+        place = draw.randrange(count + 1)
+        readers = draw.sample(names[place + 1 :], draw.randint(0, count - place))
+        items.append((draw.randint(0, most), names[place], *sorted(readers)))
+    taken, made = [0] * (count + 1), [0] * (count + 1)
+    for size, maker, *readers in items:
+        made[maker] += size
+        if len(readers) == 1:
+            taken[readers[0]] += size
+    tasks = [random_graph_task(draw, draw.randint(0, most), taken[name], made[name]) for name in range(1, count + 1)]
+    return lines_of_graph(2, tasks, "items", items)
 
 
 def random_matrix(draw: random.Random) -> bytes:
@@ -105,7 +136,7 @@ def listed(draw: random.Random, values: list[int]) -> bytes:
     return "".join(f"{value}{draw.choice([' ', chr(10)])}" for value in values).encode() + b"\n"
 
 
-def random_traversal(draw: random.Random, system: System) -> list[int]:
+def random_traversal(draw: random.Random, system: Tasks) -> list[int]:
     done, order = 0, []
     for _ in range(system.count):
         task = draw.choice(list(system.ready(done)))
