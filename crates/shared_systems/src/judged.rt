@@ -1,6 +1,6 @@
 //! Whether tasks and items are a shared system.
 
-ghost use Rattle.std.specs.Prelude.{◌≡◌, ◌≤◌, ◌^◌, ◌+◌, ℕ, length, map, IfOk, IfErr, MatchResult};
+ghost use Rattle.std.specs.Prelude.{◌≡◌, ◌≤◌, ◌^◌, ◌*◌, ◌+◌, ℕ, length, map, IfOk, IfErr, MatchResult};
 ghost use Rattle.std.specs.List.{sum_by};
 ghost use Rattle.limits.specs.Limits.{most_tasks, most_positions, most_size};
 ghost use Rattle.mp_system.specs.System.{extra_size, IsTaskWithin};
@@ -193,7 +193,7 @@ fn extras_of(tasks: &[Task]) -> u64
     requires few { length tasks.now ≤ most_tasks }
     requires within { All IsTaskWithin tasks.now }
     ensures value { result ≡ sum_by extra_size tasks.now }
-    ensures small { result ≤ 2 ^ 60 }
+    ensures small { result ≤ most_tasks * most_size }
 {
     let mut total: u64 = 0;
     for i in 0..tasks.len() {
@@ -207,7 +207,7 @@ fn sizes_of(items: &SharedItems, count: usize) -> u64
     requires few { length items.now ≤ most_positions }
     requires within { SharedItemsPass count items.now }
     ensures value { result ≡ sum_by shared_size items.now }
-    ensures small { result ≤ 2 ^ 62 }
+    ensures small { result ≤ most_positions * most_size }
 {
     let mut total: u64 = 0;
     for i in 0..items.len() {
