@@ -6,8 +6,9 @@ use Rattle.std.proofs.lemmas.List.{length-set, take_more}
 use Rattle.std.proofs.lemmas.Bool.{cases_eq, cases_lt, eq-eqb, ne_eqb, and_parts, cases_Bool, true≢false, false_from_ne_true}
 use Rattle.std.proofs.Math.Bool.{or-false}
 use Rattle.limits.specs.Limits.{most_time}
-use Rattle.mp_system.specs.System.{TaskSystem, IsTask}
-use Rattle.mp_system.specs.Memory.{stands_in, is_ready}
+use Rattle.shared_systems.specs.Shared.{SharedTaskSystem, HasTask}
+use Rattle.mp_system.specs.Memory.{stands_in}
+use Rattle.shared_systems.specs.SharedMemory.{has_inputs}
 use Rattle.activation.specs.declared.events.Phase.{Phase}
 use Rattle.activation.specs.declared.events.Phase.TheVariants.{Running, Done}
 use Rattle.activation.specs.declared.events.EventKind.TheVariants.{Activate, Start, Finish}
@@ -36,7 +37,7 @@ use Rattle.std.specs.Cmp.{both_ways}
 use Rattle.activation.proofs.Keeping.{stands_appended}
 
 -- tasks that wait for as many items are ready alike
-ready_alike : (s : TaskSystem) (d e : ℕ → Bool) (t : ℕ) → awaited s e t ≡ awaited s d t → is_ready s e t ≡ is_ready s d t
+ready_alike : (s : SharedTaskSystem) (d e : ℕ → Bool) (t : ℕ) → awaited s e t ≡ awaited s d t → has_inputs s e t ≡ has_inputs s d t
 ready_alike s d e t same =
     both_ways _ _ (λ h. ready_from s d t (sym same ∙ awaits_none s e t h)) (λ h. ready_from s e t (same ∙ awaits_none s d t h))
 
@@ -73,7 +74,7 @@ module _ {c : Setting} {st : State} {time : ℕ} {x : RunTables} (set' : IsSetti
         ap (λ xs. stands_in xs t) more ∙ stands_appended (take st.activated c.order) (get_or c.order st.activated 0) t
         ∙ ap (λ b. stands_in (take st.activated c.order) t || b) (ap (λ y. y == t) h.next ∙ ne_eqb task t (λ z. n (sym z)))
         ∙ or-false (stands_in (take st.activated c.order) t) in
-        ap (λ b. b && (is_idle_phase (phase_in st.phases t) && is_ready c.system (is_done st) t)) same
+        ap (λ b. b && (is_idle_phase (phase_in st.phases t) && has_inputs c.system (is_done st) t)) same
 
     pub activated_run : (new : List Bool) → length new ≡ length x.ready →
         ((k : ℕ) → k < length c.order
@@ -116,7 +117,7 @@ module _ {c : Setting} {st : State} {time : ℕ} {x : RunTables} (set' : IsSetti
   -- after a start
   module _ (task : ℕ) (d : Due) (h : MayStart c st task)
       (within : d.place < length c.order) (there : slice_index c.order d.place ≡ task) where
-    task_is : IsTask c.system task
+    task_is : HasTask c.system task
     task_is = task_in_order c.system c.order (each set') task (in_front c.system c.order (each set') st.activated task h.activated)
 
     stays : (t : ℕ) → t ≢ task → is_startable c (state_after st Start task) t ≡ is_startable c st t
@@ -125,7 +126,7 @@ module _ {c : Setting} {st : State} {time : ℕ} {x : RunTables} (set' : IsSetti
         let alike = ready_alike c.system (is_done st) (is_done (state_after st Start task)) t
         (awaited_same c.system (is_done (state_after st Start task)) (is_done st) (same_done c set' st safe task h) t) in
         ap (λ b. stands_in (activated_tasks c st) t && (is_idle_phase (phase_in (with_phase st.phases task Running) t) && b)) alike
-        ∙ ap (λ q. stands_in (activated_tasks c st) t && (is_idle_phase q && is_ready c.system (is_done st) t)) phase
+        ∙ ap (λ q. stands_in (activated_tasks c st) t && (is_idle_phase q && has_inputs c.system (is_done st) t)) phase
 
     pub started_run : (low : time ≤ d.time) → (high : d.time ≤ time + most_time)
         → (clock : ClockValue) → clock.room ≡ x.clock.room → IsPermutation (d ∷ x.clock.dues) clock.dues →
@@ -201,7 +202,7 @@ module _ {c : Setting} {st : State} {time : ℕ} {x : RunTables} (set' : IsSetti
         (λ n. ap is_idle_phase (with_phase_other st.phases task t Done n))
         (cases_eq t task) in
         ap (λ b. stands_in (activated_tasks c st) t && (is_idle_phase (phase_in (with_phase st.phases task Done) t) && b)) alike
-        ∙ ap (λ b. stands_in (activated_tasks c st) t && (b && is_ready c.system (is_done st) t)) idle
+        ∙ ap (λ b. stands_in (activated_tasks c st) t && (b && has_inputs c.system (is_done st) t)) idle
 
     pub finished_run : d.time ≡ task_entry x.dues task → ((u : ℕ) → phase_in st.phases u ≡ Running → d.time ≤ task_entry x.dues u) →
         (clock : ClockValue) → clock.room ≡ x.clock.room → IsPermutation x.clock.dues (d ∷ clock.dues)
@@ -259,7 +260,7 @@ no_start {c} {priority} {st} {t} f not u h =
     let q = and_parts _ _ p.1 in
     not (record { activated = p.0; idle = idle_from (phase_in st.phases t) q.0; ready = q.1; free = h.free })
 
-pub may_start_task : (c : Setting) → IsSetting c → (st : State) (t : ℕ) → MayStart c st t → IsTask c.system t
+pub may_start_task : (c : Setting) → IsSetting c → (st : State) (t : ℕ) → MayStart c st t → HasTask c.system t
 may_start_task c set st t h = task_in_order c.system c.order (each set) t (in_front c.system c.order (each set) st.activated t h.activated)
 
 -- where nothing runs and no task may be activated or start, every task is done

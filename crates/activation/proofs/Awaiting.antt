@@ -6,9 +6,11 @@ use Rattle.std.specs.List.{list_all}
 use Rattle.std.proofs.lemmas.List.Sums.{sum_by-cons}
 use Rattle.std.proofs.lemmas.Bool.{cases_eq, cases_Bool, eq-eqb, ne_eqb, and_parts, not-true, or_right}
 use Rattle.std.proofs.Math.Bool.{or-false}
-use Rattle.mp_system.specs.declared.system.Item.{Item}
-use Rattle.mp_system.specs.System.{TaskSystem, is_named, is_input}
-use Rattle.mp_system.specs.Memory.{is_done_or, is_produced, is_ready}
+use Rattle.shared_systems.specs.Shared.{SharedItem}
+use Rattle.shared_systems.specs.Shared.{SharedTaskSystem, is_read_by}
+use Rattle.mp_system.specs.System.{is_named}
+use Rattle.mp_system.specs.Memory.{is_done_or}
+use Rattle.shared_systems.specs.SharedMemory.{is_made, has_inputs}
 use Rattle.mp_system.specs.Step.{AddsTask}
 use Rattle.activation.specs.Tables.{is_awaited, is_edge, awaited}
 use Rattle.lists.proofs.Lists.{sum-same as sum_same}
@@ -18,11 +20,11 @@ done_same d e same None = refl
 done_same d e same (Some a) = same a
 
 -- the counts under tests that agree
-pub awaited_same : (s : TaskSystem) (d e : ℕ → Bool) → ((u : ℕ) → d u ≡ e u) → (t : ℕ) → awaited s d t ≡ awaited s e t
+pub awaited_same : (s : SharedTaskSystem) (d e : ℕ → Bool) → ((u : ℕ) → d u ≡ e u) → (t : ℕ) → awaited s d t ≡ awaited s e t
 unfolding awaited
 awaited_same s d e same t =
     sum_same (λ x. cond (is_awaited d t x) 1 0) (λ x. cond (is_awaited e t x) 1 0)
-    (λ x. ap (λ (b : Bool). cond (is_input t x && not b) 1 0) (done_same d e same x.from)) s.items
+    (λ x. ap (λ (b : Bool). cond (is_read_by t x && not b) 1 0) (done_same d e same x.from)) s.items
 
 -- and when task v is done too
 module _ (d e : ℕ → Bool) (v : ℕ) (off : d v ≡ false) (adds : AddsTask d v e) (u : ℕ) where
@@ -48,11 +50,11 @@ module _ (d e : ℕ → Bool) (v : ℕ) (off : d v ≡ false) (adds : AddsTask d
       rw (q1, other a q) (omega arith))
       (cases_eq a v)
 
-  awaited_list : (xs : List Item) → count_by (is_awaited e u) xs + count_by (is_edge v u) xs ≡ count_by (is_awaited d u) xs
+  awaited_list : (xs : List SharedItem) → count_by (is_awaited e u) xs + count_by (is_edge v u) xs ≡ count_by (is_awaited d u) xs
   awaited_list [] = refl
   awaited_list (x ∷ xs) =
       let ih = awaited_list xs in
-      let one = awaited_item (is_input u x) x.from in
+      let one = awaited_item (is_read_by u x) x.from in
       omega (
         arith,
         ih,
@@ -62,7 +64,7 @@ module _ (d e : ℕ → Bool) (v : ℕ) (off : d v ≡ false) (adds : AddsTask d
         sum_by-cons (λ x. cond (is_awaited d u x) 1 0) x xs,
       )
 
-pub awaited_later : (s : TaskSystem) (d e : ℕ → Bool) (v : ℕ) → d v ≡ false
+pub awaited_later : (s : SharedTaskSystem) (d e : ℕ → Bool) (v : ℕ) → d v ≡ false
     → AddsTask d v e → (u : ℕ) → awaited s e u + count_by (is_edge v u) s.items ≡ awaited s d u
 unfolding awaited
 awaited_later s d e v off adds u = awaited_list d e v off adds u s.items
@@ -73,32 +75,32 @@ ready_item true true = refl
 ready_item true false = refl
 ready_item false p = refl
 
-list_ready : (d : ℕ → Bool) (u : ℕ) (xs : List Item) → count_by (is_awaited d u) xs ≡ 0
-    → list_all (λ x. not (is_input u x) || is_produced d x) xs ≡ true
+list_ready : (d : ℕ → Bool) (u : ℕ) (xs : List SharedItem) → count_by (is_awaited d u) xs ≡ 0
+    → list_all (λ x. not (is_read_by u x) || is_made d x) xs ≡ true
 list_ready d u [] h = refl
 list_ready d u (x ∷ xs) h =
     let e = sum_by-cons (λ x. cond (is_awaited d u x) 1 0) x xs in
     ⊎_elim
     (λ y. let one : ◌≡◌ {A = ℕ} (cond (is_awaited d u x) 1 0) 1 = ap (λ (b : Bool). cond b 1 0) y in absurd (omega (arith, e, one)))
-    (λ n. let here : (not (is_input u x) || is_produced d x) ≡ true = ready_item (is_input u x) (is_produced d x) ∙ ap not n in
+    (λ n. let here : (not (is_read_by u x) || is_made d x) ≡ true = ready_item (is_read_by u x) (is_made d x) ∙ ap not n in
     rw (here, list_ready d u xs (omega (arith, e))))
     (cases_Bool (is_awaited d u x))
 
-list_awaited : (d : ℕ → Bool) (u : ℕ) (xs : List Item)
-    → list_all (λ x. not (is_input u x) || is_produced d x) xs ≡ true → count_by (is_awaited d u) xs ≡ 0
+list_awaited : (d : ℕ → Bool) (u : ℕ) (xs : List SharedItem)
+    → list_all (λ x. not (is_read_by u x) || is_made d x) xs ≡ true → count_by (is_awaited d u) xs ≡ 0
 list_awaited d u [] h = refl
 list_awaited d u (x ∷ xs) h =
-    let p = and_parts (not (is_input u x) || is_produced d x) (list_all (λ x. not (is_input u x) || is_produced d x) xs) h in
+    let p = and_parts (not (is_read_by u x) || is_made d x) (list_all (λ x. not (is_read_by u x) || is_made d x) xs) h in
     let e = sum_by-cons (λ x. cond (is_awaited d u x) 1 0) x xs in
-    let here : is_awaited d u x ≡ false = not-true (is_awaited d u x) (sym (ready_item (is_input u x) (is_produced d x)) ∙ p.0) in
+    let here : is_awaited d u x ≡ false = not-true (is_awaited d u x) (sym (ready_item (is_read_by u x) (is_made d x)) ∙ p.0) in
     let zero' : ◌≡◌ {A = ℕ} (cond (is_awaited d u x) 1 0) 0 = ap (λ (b : Bool). cond b 1 0) here in
     omega (arith, e, zero', list_awaited d u xs p.1)
 
 -- a task is ready exactly where it waits for nothing
-pub ready_from : (s : TaskSystem) (d : ℕ → Bool) (u : ℕ) → awaited s d u ≡ 0 → is_ready s d u ≡ true
+pub ready_from : (s : SharedTaskSystem) (d : ℕ → Bool) (u : ℕ) → awaited s d u ≡ 0 → has_inputs s d u ≡ true
 unfolding awaited
 ready_from s d u h = list_ready d u s.items h
 
-pub awaits_none : (s : TaskSystem) (d : ℕ → Bool) (u : ℕ) → is_ready s d u ≡ true → awaited s d u ≡ 0
+pub awaits_none : (s : SharedTaskSystem) (d : ℕ → Bool) (u : ℕ) → has_inputs s d u ≡ true → awaited s d u ≡ 0
 unfolding awaited
 awaits_none s d u h = list_awaited d u s.items h

@@ -1,12 +1,16 @@
 -- The tables of a core at its start.
-use Rattle.std.proofs.Common.{◌≡◌, ℕ, ◌≤◌, false, List, [], length, refl, sym, ◌∙◌, ap}
+use Rattle.std.proofs.Common.{◌≡◌, ℕ, ◌≤◌, false, not, cond, List, [], length, refl, sym, ◌∙◌, ap}
 use Rattle.std.specs.Prelude.{count_by, slice_index}
 use Rattle.limits.specs.Limits.{most_workers}
-use Rattle.mp_system.specs.Memory.{state_memory}
+use Rattle.lists.proofs.Lists.{sum-same as sum_same}
+use Rattle.shared_systems.specs.Shared.{SharedItem, shared_item_at}
+use Rattle.shared_systems.specs.SharedMemory.{shared_memory}
+use Rattle.activation.specs.declared.events.Phase.{Phase}
 use Rattle.activation.specs.Machine.{Setting, IsSetting, is_done, is_running, is_done_phase, is_running_phase}
 use Rattle.activation.specs.Machine.{start_state, booked_memory, used_memory}
 use Rattle.activation.specs.Safe.{IsSafe}
-use Rattle.activation.specs.Tables.{FixedTables, AreFixed, AreByPlace, AreCoreTables, is_awaited, awaited}
+use Rattle.activation.specs.Tables.{FixedTables, AreFixed, AreByPlace, AreLeft, AreCoreTables, is_awaited, awaited, shared_items_of}
+use Rattle.activation.specs.Tables.{readers_left}
 use Rattle.activation.proofs.Safety.{phase_replicate, count_zero}
 use Rattle.activation.proofs.Awaiting.{awaited_same}
 
@@ -15,21 +19,28 @@ unfolding awaited
 awaited_first c t =
     awaited_same c.system (is_done (start_state c)) (λ _. false) (λ u. ap is_done_phase (phase_replicate (length c.system.tasks) u)) t
 
+left_first : (c : Setting) (x : SharedItem) → readers_left (is_done (start_state c)) x ≡ readers_left (λ _. false) x
+left_first c x =
+    sum_same (λ t. cond (not (is_done (start_state c) t)) 1 0) (λ t. 1)
+    (λ t. ap (λ (p : Phase). cond (not (is_done_phase p)) 1 0) (phase_replicate (length c.system.tasks) t)) x.readers
+
 pub start_tables : (c : Setting) → IsSetting c → c.workers ≤ most_workers → IsSafe c (start_state c) →
-    booked_memory c (start_state c) ≡ state_memory c.system (λ _. false)
-    → used_memory c (start_state c) ≡ state_memory c.system (λ _. false) →
+    booked_memory c (start_state c) ≡ shared_memory c.system (λ _. false)
+    → used_memory c (start_state c) ≡ shared_memory c.system (λ _. false) →
     (fixed : FixedTables) → AreFixed c fixed →
     (waiting : List ℕ) → AreByPlace c.order (λ t n. n ≡ count_by (is_awaited (λ _. false) t) c.system.items) waiting →
-    (memory : ℕ) → memory ≡ state_memory c.system (λ _. false) →
+    (left : List ℕ) → AreLeft (λ _. false) (shared_items_of c.system) left →
+    (memory : ℕ) → memory ≡ shared_memory c.system (λ _. false) →
     AreCoreTables c (start_state c)
     (record {
       fixed = fixed;
       waiting = waiting;
+      left = left;
       running = record { listed = []; room = c.workers; count = length c.system.tasks };
       booked = memory;
       used = memory;
     })
-start_tables c set few safe booked used fixed are waiting waits memory is =
+start_tables c set few safe booked used fixed are waiting waits left lefts memory is =
     let idle = phase_replicate (length c.system.tasks) in
     record {
       setting = set;
@@ -37,6 +48,7 @@ start_tables c set few safe booked used fixed are waiting waits memory is =
       safe = safe;
       fixed = are;
       waiting_are = record { long = waits.long; each = λ k w. waits.each k w ∙ sym (awaited_first c (slice_index c.order k)) };
+      left_are = record { long = lefts.long; each = λ j lt. lefts.each j lt ∙ sym (left_first c (shared_item_at (shared_items_of c.system) j)) };
       running_room = refl;
       running_numbers = refl;
       running_length = sym (count_zero (is_running (start_state c)) c.order (λ x h. ap is_running_phase (idle x)));

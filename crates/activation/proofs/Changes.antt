@@ -5,9 +5,10 @@ use Rattle.std.specs.List.{sum_by}
 use Rattle.std.proofs.lemmas.List.Sums.{sum_by_more}
 use Rattle.std.proofs.lemmas.Bool.{cases_eq, eq-eqb, ne_eqb, true≢false}
 use Rattle.std.proofs.Math.Bool.{or-false}
-use Rattle.mp_system.specs.System.{need_of}
+use Rattle.shared_systems.specs.Shared.{shared_need_of}
 use Rattle.mp_system.specs.Memory.{stands_in}
-use Rattle.mp_system.specs.Step.{AddsTask, CanRun}
+use Rattle.mp_system.specs.Step.{AddsTask}
+use Rattle.shared_systems.proofs.Endings.{shared_memory_same, memory_later}
 use Rattle.activation.specs.declared.events.Phase.{Phase}
 use Rattle.activation.specs.declared.events.Phase.TheVariants.{Idle, Running, Done}
 use Rattle.activation.specs.declared.events.EventKind.{EventKind}
@@ -19,7 +20,6 @@ use Rattle.activation.specs.Changes.{IsChange, BooksNeed, UsesNeed, FreesNeed}
 use Rattle.activation.proofs.Totals.{sum_changed_once, counted_in}
 use Rattle.lists.proofs.Lists.{sum-same as sum_same}
 use Rattle.activation.proofs.Phases.{with_phase_same, with_phase_other, busy}
-use Rattle.activation.proofs.Premises.{StateSame, StateStep}
 use Rattle.activation.proofs.Orders.{each, task_in_order, counted_in_order, counted_once, in_front}
 
 -- each task is idle or not
@@ -43,10 +43,10 @@ module _ (c : Setting) (set : IsSetting c) (st : State) (so : IsSafe c st) (t : 
 
   activate_change : MayActivate c st t → BooksNeed c st t
   activate_change h =
-      let held : ℕ → ℕ = λ x. cond (is_done st x) 0 (need_of c.system x) in
+      let held : ℕ → ℕ = λ x. cond (is_done st x) 0 (shared_need_of c.system x) in
       let more = sum_by_more held c.order st.activated 0 h.left in
-      let last : held (get_or c.order st.activated 0) ≡ need_of c.system t =
-      ap held h.next ∙ ap (λ (p : Phase). cond (is_done_phase p) 0 (need_of c.system t)) (next_idle h) in
+      let last : held (get_or c.order st.activated 0) ≡ shared_need_of c.system t =
+      ap held h.next ∙ ap (λ (p : Phase). cond (is_done_phase p) 0 (shared_need_of c.system t)) (next_idle h) in
       record { booked = omega (arith, more, last) }
 
   pub is_changed : stands_in (activated_tasks c st) t ≡ true → (q : Phase) → phase_in (with_phase st.phases t q) t ≡ q
@@ -108,53 +108,45 @@ module _ (c : Setting) (set : IsSetting c) (st : State) (so : IsSafe c st) (t : 
   not_idle : (u : ℕ) → is_done st u ≡ true → phase_in st.phases u ≢ Idle
   not_idle u y z = true≢false (sym y ∙ ap is_done_phase z)
 
-  can_run : MayFinish c st t → CanRun c.system (is_done st) t
-  can_run h = record {
-    fresh = ap is_done_phase h.running;
-    ready = so.ready t (busy h.running);
-    suppliers = λ u y. so.ready u (not_idle u y);
-  }
+  start_change : MayStart c st t → UsesNeed c st t
+  start_change h =
+      let here = shared_memory_same c.system (is_done (state_after st Start t)) (is_done st) (same_done h) in
+      let held = sum_same (λ x. cond (is_done (state_after st Start t) x) 0 (shared_need_of c.system x))
+      (λ x. cond (is_done st x) 0 (shared_need_of c.system x))
+      (λ x. ap (λ (b : Bool). cond b 0 (shared_need_of c.system x)) (same_done h x)) (activated_tasks c st) in
+      let sums = order_sum (λ p x. cond (is_running_phase p) (shared_need_of c.system x) 0) Running h.activated in
+      let was : cond (is_running_phase (phase_in st.phases t)) (shared_need_of c.system t) 0 ≡ 0 =
+      ap (λ (p : Phase). cond (is_running_phase p) (shared_need_of c.system t) 0) h.idle in
+      let counts = order_sum (λ p x. cond (is_running_phase p) 1 0) Running h.activated in
+      let none : ◌≡◌ {A = ℕ} (cond (is_running_phase (phase_in st.phases t)) 1 0) 0 =
+      ap (λ (p : Phase). cond (is_running_phase p) 1 0) h.idle in
+      record {
+        booked = omega (arith, here, held);
+        used = omega (arith, here, sums, was);
+        running = omega (arith, counts, none);
+      }
 
-  module _ (state_same : StateSame) where
-    start_change : MayStart c st t → UsesNeed c st t
-    start_change h =
-        let here = state_same c.system (is_done (state_after st Start t)) (is_done st) (same_done h) in
-        let held = sum_same (λ x. cond (is_done (state_after st Start t) x) 0 (need_of c.system x))
-        (λ x. cond (is_done st x) 0 (need_of c.system x))
-        (λ x. ap (λ (b : Bool). cond b 0 (need_of c.system x)) (same_done h x)) (activated_tasks c st) in
-        let sums = order_sum (λ p x. cond (is_running_phase p) (need_of c.system x) 0) Running h.activated in
-        let was : cond (is_running_phase (phase_in st.phases t)) (need_of c.system t) 0 ≡ 0 =
-        ap (λ (p : Phase). cond (is_running_phase p) (need_of c.system t) 0) h.idle in
-        let counts = order_sum (λ p x. cond (is_running_phase p) 1 0) Running h.activated in
-        let none : ◌≡◌ {A = ℕ} (cond (is_running_phase (phase_in st.phases t)) 1 0) 0 =
-        ap (λ (p : Phase). cond (is_running_phase p) 1 0) h.idle in
-        record {
-          booked = omega (arith, here, held);
-          used = omega (arith, here, sums, was);
-          running = omega (arith, counts, none);
-        }
+  finish_change : MayFinish c st t → FreesNeed c st t
+  finish_change h =
+      let here = memory_later c.system (is_done st) (is_done (state_after st Finish t)) t
+      (ap is_done_phase h.running) (so.ready t (busy h.running)) (λ u y. so.ready u (not_idle u y)) (finish_adds h) in
+      let front = front_sum (λ p x. cond (is_done_phase p) 0 (shared_need_of c.system x)) Done (finishes_front h) in
+      let held : cond (is_done_phase (phase_in st.phases t)) 0 (shared_need_of c.system t) ≡ shared_need_of c.system t =
+      ap (λ (p : Phase). cond (is_done_phase p) 0 (shared_need_of c.system t)) h.running in
+      let sums = order_sum (λ p x. cond (is_running_phase p) (shared_need_of c.system x) 0) Done (finishes_front h) in
+      let was : cond (is_running_phase (phase_in st.phases t)) (shared_need_of c.system t) 0 ≡ shared_need_of c.system t =
+      ap (λ (p : Phase). cond (is_running_phase p) (shared_need_of c.system t) 0) h.running in
+      let counts = order_sum (λ p x. cond (is_running_phase p) 1 0) Done (finishes_front h) in
+      let one : ◌≡◌ {A = ℕ} (cond (is_running_phase (phase_in st.phases t)) 1 0) 1 =
+      ap (λ (p : Phase). cond (is_running_phase p) 1 0) h.running in
+      record {
+        booked = omega (arith, here, front, held);
+        used = omega (arith, here, sums, was);
+        running = omega (arith, counts, one);
+      }
 
-  module _ (state_step : StateStep) where
-    finish_change : MayFinish c st t → FreesNeed c st t
-    finish_change h =
-        let here = state_step c.system (is_done st) (is_done (state_after st Finish t)) t (can_run h) (finish_adds h) in
-        let front = front_sum (λ p x. cond (is_done_phase p) 0 (need_of c.system x)) Done (finishes_front h) in
-        let held : cond (is_done_phase (phase_in st.phases t)) 0 (need_of c.system t) ≡ need_of c.system t =
-        ap (λ (p : Phase). cond (is_done_phase p) 0 (need_of c.system t)) h.running in
-        let sums = order_sum (λ p x. cond (is_running_phase p) (need_of c.system x) 0) Done (finishes_front h) in
-        let was : cond (is_running_phase (phase_in st.phases t)) (need_of c.system t) 0 ≡ need_of c.system t =
-        ap (λ (p : Phase). cond (is_running_phase p) (need_of c.system t) 0) h.running in
-        let counts = order_sum (λ p x. cond (is_running_phase p) 1 0) Done (finishes_front h) in
-        let one : ◌≡◌ {A = ℕ} (cond (is_running_phase (phase_in st.phases t)) 1 0) 1 =
-        ap (λ (p : Phase). cond (is_running_phase p) 1 0) h.running in
-        record {
-          booked = omega (arith, here, front, held);
-          used = omega (arith, here, sums, was);
-          running = omega (arith, counts, one);
-        }
-
-pub event_change : StateSame → StateStep → (c : Setting) → IsSetting c → (st : State)
-    → IsSafe c st → (kind : EventKind) (t : ℕ) → MayHappen c st kind t → IsChange c st kind t
-event_change same step c set st so Activate t h = activate_change c set st so t h
-event_change same step c set st so Start t h = start_change c set st so t same h
-event_change same step c set st so Finish t h = finish_change c set st so t step h
+pub event_change : (c : Setting) → IsSetting c → (st : State) → IsSafe c st
+    → (kind : EventKind) (t : ℕ) → MayHappen c st kind t → IsChange c st kind t
+event_change c set st so Activate t h = activate_change c set st so t h
+event_change c set st so Start t h = start_change c set st so t h
+event_change c set st so Finish t h = finish_change c set st so t h

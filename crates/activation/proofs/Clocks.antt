@@ -5,7 +5,7 @@ use Rattle.std.specs.Prelude.{slice_index, Option, None, Some, IfSome}
 use Rattle.std.proofs.lemmas.List.{get_or-replicate, length-replicate, length-map, get_or-map, get_or_past}
 use Rattle.std.proofs.lemmas.Bool.{cases_lt, cases_Bool, true≢false}
 use Rattle.std.proofs.lemmas.List.Elements.{All-get_or, All-contains}
-use Rattle.mp_system.specs.System.{TaskSystem, IsTask}
+use Rattle.shared_systems.specs.Shared.{SharedTaskSystem, HasTask}
 use Rattle.activation.specs.declared.events.Event.{Event}
 use Rattle.activation.specs.declared.events.EventKind.TheVariants.{Finish}
 use Rattle.activation.specs.declared.events.Phase.{Phase}
@@ -28,12 +28,12 @@ use Rattle.activation.proofs.Dues.{bit, found, place_at}
 use Rattle.std.specs.List.{Contains, sum_by}
 
 -- a priority that is told by places of an order
-module _ (system : TaskSystem) (order priority : List ℕ) (holds : HoldsEach system (map (slice_index order) priority)) where
-  task_ranked : (r : ℕ) → r < length priority → IsTask system (get_or order (get_or priority r 0) 0)
+module _ (system : SharedTaskSystem) (order priority : List ℕ) (holds : HoldsEach system (map (slice_index order) priority)) where
+  task_ranked : (r : ℕ) → r < length priority → HasTask system (get_or order (get_or priority r 0) 0)
   task_ranked r w =
       let f : ℕ → ℕ = slice_index order in
-      subst (IsTask system) (get_or-map f priority r 0 0 w)
-      (All-get_or (IsTask system) (map f priority) r 0 (omega (arith, w, length-map priority f)) holds.within)
+      subst (HasTask system) (get_or-map f priority r 0 0 w)
+      (All-get_or (HasTask system) (map f priority) r 0 (omega (arith, w, length-map priority f)) holds.within)
 
   place_within : (r : ℕ) → r < length priority → get_or priority r 0 < length order
   place_within r w =
@@ -50,7 +50,7 @@ module _ (system : TaskSystem) (order priority : List ℕ) (holds : HoldsEach sy
         let f : ℕ → ℕ = slice_index order in
         let task = get_or order k 0 in
         let p = place_in (map f priority) task
-        (task_has_place system (map f priority) holds task (All-get_or (IsTask system) order k 0 w orders.within)) in
+        (task_has_place system (map f priority) holds task (All-get_or (HasTask system) order k 0 w orders.within)) in
         let within : p.0 < length priority = omega (arith, p.1, length-map priority f) in
         let there : get_or order (get_or priority p.0 0) 0 ≡ task = sym (get_or-map f priority p.0 0 0 within) ∙ p.2 in
         let same = stands_once system order orders task (get_or priority p.0 0) k (place_within p.0 within) w there refl in
@@ -173,7 +173,7 @@ module _ {c : Setting} {st : State} {time : ℕ} {x : RunTables} (long' : Long)
         },
       )
 
-  pub none_startable : ((k : ℕ) → get_or x.ready k false ≡ false) → (u : ℕ) → IsTask c.system u → is_startable c st u ≡ false
+  pub none_startable : ((k : ℕ) → get_or x.ready k false ≡ false) → (u : ℕ) → HasTask c.system u → is_startable c st u ≡ false
   none_startable none u is =
       let p = place_in c.order u (task_has_place c.system c.order (each set) u is) in
       ap (is_startable c st) (sym p.2) ∙ sym (r.ready_is p.0 p.1) ∙ none (get_or x.ranks p.0 0)

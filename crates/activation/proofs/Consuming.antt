@@ -1,17 +1,15 @@
--- The rows of the places to which the items of each place go.
-use Rattle.std.proofs.Common.{◌≡◌, ℕ, suc, ◌+◌, ◌-◌, ◌<◌, All, true, false, cond, List, []}
-use Rattle.std.proofs.Common.{◌∷◌, length, map, get_or, refl, sym, ◌∙◌, ap, arith, ⊎_elim}
+-- The rows of the places of an order: to which places its items go, and which shared items are read there.
+use Rattle.std.proofs.Common.{◌≡◌, ℕ, ◌+◌, ◌-◌, ◌<◌, All, List}
+use Rattle.std.proofs.Common.{length, get_or, sym, ◌∙◌, ap, arith, ⊎_elim}
 use Rattle.std.specs.Prelude.{count_by, ◌==◌}
-use Rattle.std.proofs.lemmas.List.Sums.{sum_by-cons}
-use Rattle.std.proofs.lemmas.Bool.{cases_eq, cases_Bool, eq-eqb, ne_eqb}
+use Rattle.std.proofs.lemmas.Bool.{cases_eq, eq-eqb, ne_eqb}
 use Rattle.std.proofs.lemmas.List.Elements.{All-get_or}
-use Rattle.row_table.specs.Rows.{row_at, numbers_with}
-use Rattle.mp_system.specs.System.{TaskSystem, IsTask}
-use Rattle.activation.specs.declared.consumers.Edge.{Edge}
+use Rattle.row_table.specs.Rows.{row_at}
+use Rattle.shared_systems.specs.Shared.{SharedTaskSystem, HasTask}
 use Rattle.activation.specs.Running.{IsNumber}
 use Rattle.activation.specs.Schedule.{task_entry, HoldsEach}
-use Rattle.activation.specs.Tables.{IsNumbering, AreTaskPlaces, AreConsumerRows}
-use Rattle.activation.specs.Consumers.{joins, no_edge, AreConsumersOf}
+use Rattle.activation.specs.Tables.{IsNumbering, AreTaskPlaces, AreConsumerRows, AreReadingRows, shared_items_of}
+use Rattle.activation.specs.Consumers.{AreConsumersOf, AreReadingsOf}
 use Rattle.activation.proofs.Numbers.{number_at, number_next}
 use Rattle.activation.proofs.Totals.{place_in}
 use Rattle.activation.proofs.Orders.{task_has_place}
@@ -32,35 +30,10 @@ same_place {n} {places} is t u it iu =
     ∙ sym (ne_eqb t u d))
     (cases_eq t u)
 
--- among the ends of the edges that begin at a place another one stands as often as edges go from the one to the other
-pub row_counts : (k p : ℕ) (g : ℕ → ℕ) (edges : List Edge) (first : ℕ)
-    → ((i : ℕ) → i < length edges → g (first + i) ≡ (get_or edges i no_edge).to) →
-    count_by (λ q. q == p) (map g (numbers_with (map (λ e. e.from) edges) first k)) ≡ count_by (joins k p) edges
-row_counts k p g [] first same = refl
-row_counts k p g (x ∷ xs) first same =
-    let zero' : first + 0 ≡ first = omega arith in
-    let here : g first ≡ x.to = ap g (sym zero') ∙ same 0 (omega arith) in
-    let next : (i : ℕ) → i < length xs → g (first + 1 + i) ≡ (get_or xs i no_edge).to =
-    λ i w. let e : first + 1 + i ≡ first + suc i = omega arith in
-    ap g e ∙ same (suc i) (omega arith) in
-    let rest = row_counts k p g xs (first + 1) next in
-    let both = sum_by-cons (λ e. cond (joins k p e) 1 0) x xs in
-    let tail : List ℕ = map g (numbers_with (map (λ (e : Edge). e.from) xs) (first + 1) k) in
-    ⊎_elim
-    (λ (y : (x.from == k) ≡ true).
-    let row : map g (numbers_with (map (λ (e : Edge). e.from) (x ∷ xs)) first k) ≡ g first ∷ tail = rw y in
-    let one : ◌≡◌ {A = ℕ} (cond (joins k p x) 1 0) (cond (g first == p) 1 0) = rw (y, here) in
-    omega (arith, ap (count_by (λ q. q == p)) row, sum_by-cons (λ q. cond (q == p) 1 0) (g first) tail, both, one, rest))
-    (λ (n : (x.from == k) ≡ false).
-    let row : map g (numbers_with (map (λ (e : Edge). e.from) (x ∷ xs)) first k) ≡ tail = rw n in
-    let none : ◌≡◌ {A = ℕ} (cond (joins k p x) 1 0) 0 = rw n in
-    omega (arith, ap (count_by (λ q. q == p)) row, both, none, rest))
-    (cases_Bool (x.from == k))
-
 -- the rows told by tasks are those told by the places of an order
-pub order_rows : {system : TaskSystem} {order places : List ℕ} {rows : List (List ℕ)}
+pub order_rows : {system : SharedTaskSystem} {order places : List ℕ} {rows : List (List ℕ)}
     → AreConsumersOf system places rows → length order ≡ length system.tasks →
-    All (IsTask system) order → AreTaskPlaces order places → AreConsumerRows order system.items rows
+    All (HasTask system) order → AreTaskPlaces order places → AreConsumerRows order system.items rows
 order_rows {system} {order} {places} {rows} are long tasks at = record {
   long = are.long ∙ sym long;
   within = λ k w i d v. omega (arith, are.within k (omega (arith, w, are.long, long)) i d v, long);
@@ -68,11 +41,19 @@ order_rows {system} {order} {places} {rows} are long tasks at = record {
       ap (λ q. count_by (λ u. u == q) (row_at rows k)) (sym (at p v))
       ∙ ap (λ j. count_by (λ u. u == task_entry places (get_or order p 0)) (row_at rows j)) (sym (at k w))
       ∙ are.counts (get_or order k 0) (get_or order p 0)
-      (All-get_or (IsTask system) order k 0 w tasks) (All-get_or (IsTask system) order p 0 v tasks);
+      (All-get_or (HasTask system) order k 0 w tasks) (All-get_or (HasTask system) order p 0 v tasks);
+}
+
+pub order_readings : {system : SharedTaskSystem} {order places : List ℕ} {rows : List (List ℕ)}
+    → AreReadingsOf system places rows → length order ≡ length system.tasks →
+    All (HasTask system) order → AreTaskPlaces order places → AreReadingRows order (shared_items_of system) rows
+order_readings {system} {order} {places} {rows} are long tasks at = record {
+  long = are.long ∙ sym long;
+  rows_are = λ k w. ap (row_at rows) (sym (at k w)) ∙ are.rows_are (get_or order k 0) (All-get_or (HasTask system) order k 0 w tasks);
 }
 
 -- the places of the tasks of an order number them
-pub places_number : {system : TaskSystem} {order places : List ℕ} → HoldsEach system order
+pub places_number : {system : SharedTaskSystem} {order places : List ℕ} → HoldsEach system order
     → length order ≡ length system.tasks → length places ≡ length system.tasks →
     AreTaskPlaces order places → IsNumbering (length system.tasks) places
 places_number {system} {order} {places} each long len at =

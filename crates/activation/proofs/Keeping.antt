@@ -1,15 +1,19 @@
 -- The tables of a machine before and after each event.
-use Rattle.std.proofs.Common.{◌≡◌, ℕ, ◌+◌, ◌-◌, ◌<◌, ◌≤◌, All, true, false, not, ◌&&◌, List, [], ◌∷◌, ◌++◌}
+use Rattle.std.proofs.Common.{◌≡◌, ℕ, ◌+◌, ◌-◌, ◌<◌, ◌≤◌, All, Bool, true, false, cond, not, ◌&&◌, List, [], ◌∷◌, ◌++◌}
 use Rattle.std.proofs.Common.{length, get_or, set, sym, subst, ◌∙◌, ap, arith, ⊎_elim, length-append}
 use Rattle.std.specs.Prelude.{count_by, ◌==◌, ◌||◌, nat_lt, slice_index}
+use Rattle.std.specs.List.{sum_by}
+use Rattle.std.proofs.Math.Path.{fun_ext}
+use Rattle.limits.specs.Limits.{most_total}
 use Rattle.std.proofs.lemmas.List.{get_or_read, length-take, get_or-take}
 use Rattle.std.proofs.lemmas.List.Elements.{All-get_or}
 use Rattle.row_table.specs.Rows.{row_at}
 use Rattle.std.proofs.lemmas.Bool.{true≢false, cases_eq, eq-eqb, eqb-true, ne_eqb, ltb-true, lt-ltb, and_from}
 use Rattle.std.proofs.lemmas.List.Folds.{list_any-append}
 use Rattle.std.proofs.Math.Bool.{or-true, or-false, and-true, and-false}
-use Rattle.mp_system.specs.System.{IsTask, need_of, inputs_of, outputs_of}
-use Rattle.mp_system.specs.Memory.{stands_in, is_ready}
+use Rattle.shared_systems.specs.Shared.{SharedItem, HasTask, shared_item_at, shared_need_of, own_inputs_of, shared_outputs_of}
+use Rattle.mp_system.specs.Memory.{stands_in}
+use Rattle.shared_systems.specs.SharedMemory.{has_inputs}
 use Rattle.activation.specs.declared.events.Phase.{Phase}
 use Rattle.activation.specs.declared.events.Phase.TheVariants.{Running, Done}
 use Rattle.activation.specs.declared.events.EventKind.TheVariants.{Activate, Start, Finish}
@@ -18,8 +22,11 @@ use Rattle.activation.specs.Machine.{Setting, State, phase_in, is_idle_phase, is
 use Rattle.activation.specs.Machine.{is_running, activated_tasks, MayActivate, MayStart, MayFinish, state_after}
 use Rattle.activation.specs.Safe.{IsSafe}
 use Rattle.activation.specs.Schedule.{task_entry}
+use Rattle.shared_systems.specs.Freed.{freed_by}
+use Rattle.activation.proofs.LastReaders.{ReadsRow, reads_row}
 use Rattle.activation.specs.Changes.{BooksNeed, UsesNeed, FreesNeed}
-use Rattle.activation.specs.Tables.{CoreTables, AreCoreTables, AreByPlace, awaited, is_edge, is_startable}
+use Rattle.activation.specs.Tables.{CoreTables, AreCoreTables, AreByPlace, AreLeft, awaited, is_edge, is_startable}
+use Rattle.activation.specs.Tables.{shared_items_of, numbers_read, readers_left}
 use Rattle.activation.proofs.Totals.{place_in, in_at}
 use Rattle.activation.proofs.Numbers.{number_read}
 use Rattle.activation.proofs.Phases.{phase_read, running_from, phase_written, with_phase_same, with_phase_other}
@@ -36,35 +43,38 @@ start_startable c st task h = and_from _ _ h.activated (and_from _ _ (ap is_idle
 pub stands_appended : (xs : List ℕ) (t u : ℕ) → stands_in (xs ++ t ∷ []) u ≡ (stands_in xs u || (t == u))
 stands_appended xs t u = list_any-append (λ x. x == u) xs (t ∷ []) ∙ ap (λ b. stands_in xs u || b) (or-false (t == u))
 
+left_same : (done other : ℕ → Bool) → ((u : ℕ) → done u ≡ other u) → (x : SharedItem) → readers_left done x ≡ readers_left other x
+left_same done other same x = ap (λ (f : ℕ → Bool). readers_left f x) (fun_ext same)
+
 module _ {c : Setting} {st : State} {x : CoreTables} (a : AreCoreTables c st x) where
   -- the task at a place of the order
-  pub task_here : (k : ℕ) → k < length c.order → IsTask c.system (slice_index c.order k)
-  task_here k w = All-get_or (IsTask c.system) c.order k 0 w a.setting.traversal.tasks
+  pub task_here : (k : ℕ) → k < length c.order → HasTask c.system (slice_index c.order k)
+  task_here k w = All-get_or (HasTask c.system) c.order k 0 w a.setting.traversal.tasks
 
   pub read_here : (k task : ℕ) → k < length c.order → task ≡ get_or c.order k task → slice_index c.order k ≡ task
   read_here k task w e = sym (get_or_read c.order k task w e 0)
 
   -- an activated task is one of the system
-  pub front_is_task : (task : ℕ) → stands_in (activated_tasks c st) task ≡ true → IsTask c.system task
+  pub front_is_task : (task : ℕ) → stands_in (activated_tasks c st) task ≡ true → HasTask c.system task
   front_is_task task h =
       task_in_order c.system c.order (each a.setting) task (in_front c.system c.order (each a.setting) st.activated task h)
 
-  pub start_is_task : (task : ℕ) → MayStart c st task → IsTask c.system task
+  pub start_is_task : (task : ℕ) → MayStart c st task → HasTask c.system task
   start_is_task task h = front_is_task task h.activated
 
-  pub finish_is_task : (task : ℕ) → MayFinish c st task → IsTask c.system task
+  pub finish_is_task : (task : ℕ) → MayFinish c st task → HasTask c.system task
   finish_is_task task h = front_is_task task (finishes_front c a.setting st a.safe task h)
 
   -- where a task is left to activate
   module _ {task n : ℕ} (left : st.activated < length c.order)
-      (next : slice_index c.order st.activated ≡ task) (cost : n ≡ need_of c.system task) where
+      (next : slice_index c.order st.activated ≡ task) (cost : n ≡ shared_need_of c.system task) where
     pub may_activate : n ≤ c.bound - x.booked → MayActivate c st task
     may_activate fits = record { left = left; next = next; fits = omega (arith, cost, a.booked_is, a.safe.booked) }
 
     pub may_not_activate : c.bound - x.booked < n → (other : ℕ) → MayActivate c st other → ⊥
     may_not_activate tight other h =
         let same : task ≡ other = sym next ∙ h.next in
-        omega (arith, cost, ap (need_of c.system) same, a.booked_is, h.fits)
+        omega (arith, cost, ap (shared_need_of c.system) same, a.booked_is, h.fits)
 
     pub activated_tables : IsSafe c (state_after st Activate task) → BooksNeed c st task →
         AreCoreTables c (state_after st Activate task) (record x { booked = x.booked + n })
@@ -74,6 +84,7 @@ module _ {c : Setting} {st : State} {x : CoreTables} (a : AreCoreTables c st x) 
       safe = safe;
       fixed = a.fixed;
       waiting_are = a.waiting_are;
+      left_are = a.left_are;
       running_room = a.running_room;
       running_numbers = a.running_numbers;
       running_length = a.running_length;
@@ -83,13 +94,13 @@ module _ {c : Setting} {st : State} {x : CoreTables} (a : AreCoreTables c st x) 
     }
 
   -- the place of a task tells whether it is activated
-  place_is : (task : ℕ) → IsTask c.system task
+  place_is : (task : ℕ) → HasTask c.system task
       → (k : ℕ) × (k < length c.order) × (get_or c.order k 0 ≡ task) × (task_entry x.fixed.places task ≡ k)
   place_is task is =
       let p = place_in c.order task (task_has_place c.system c.order (each a.setting) task is) in
       (p.0, p.1, p.2, ap (task_entry x.fixed.places) (sym p.2) ∙ a.fixed.places_are p.0 p.1)
 
-  pub activated_by_place : (task : ℕ) → IsTask c.system task
+  pub activated_by_place : (task : ℕ) → HasTask c.system task
       → task_entry x.fixed.places task < st.activated → stands_in (activated_tasks c st) task ≡ true
   activated_by_place task is lt =
       let p = place_is task is in
@@ -98,7 +109,7 @@ module _ {c : Setting} {st : State} {x : CoreTables} (a : AreCoreTables c st x) 
       ap (λ t. stands_in (activated_tasks c st) t) (sym (e ∙ p.2))
       ∙ in_at (activated_tasks c st) p.0 (omega (arith, length-take st.activated c.order, p.1))
 
-  pub place_of_activated : (task : ℕ) → IsTask c.system task
+  pub place_of_activated : (task : ℕ) → HasTask c.system task
       → stands_in (activated_tasks c st) task ≡ true → task_entry x.fixed.places task < st.activated
   place_of_activated task is front =
       let p = place_in (activated_tasks c st) task front in
@@ -110,7 +121,7 @@ module _ {c : Setting} {st : State} {x : CoreTables} (a : AreCoreTables c st x) 
       omega (arith, at, w)
 
   -- what is read of the places
-  pub place_found : (task p : ℕ) → IsTask c.system task → p ≡ get_or x.fixed.places (task - 1) p
+  pub place_found : (task p : ℕ) → HasTask c.system task → p ≡ get_or x.fixed.places (task - 1) p
       → (p < length c.order) × (slice_index c.order p ≡ task)
   place_found task p is e =
       let q = place_is task is in
@@ -119,8 +130,8 @@ module _ {c : Setting} {st : State} {x : CoreTables} (a : AreCoreTables c st x) 
 
   -- what is read of the task at a place
   module _ {k task : ℕ} (w : k < length c.order) (here : slice_index c.order k ≡ task) where
-    is : IsTask c.system task
-    is = subst (IsTask c.system) here (task_here k w)
+    is : HasTask c.system task
+    is = subst (HasTask c.system) here (task_here k w)
 
     pub number_here : {n : ℕ} {tells : ℕ → ℕ → Type 0} {numbers : List ℕ}
         → AreByPlace c.order tells numbers → n ≡ get_or numbers k n → tells task n
@@ -146,7 +157,7 @@ module _ {c : Setting} {st : State} {x : CoreTables} (a : AreCoreTables c st x) 
     pub rests_here : {q : Phase} → q ≡ get_or st.phases (task - 1) q → is_running_phase q ≡ false → MayFinish c st task → ⊥
     rests_here e off h = true≢false (sym (ap is_running_phase (phase_here e ∙ h.running)) ∙ off)
 
-    pub ready_read : {n : ℕ} → n ≡ get_or x.waiting k n → is_ready c.system (is_done st) task ≡ (n == 0)
+    pub ready_read : {n : ℕ} → n ≡ get_or x.waiting k n → has_inputs c.system (is_done st) task ≡ (n == 0)
     ready_read {n} e =
         let left : n ≡ awaited c.system (is_done st) task = number_here a.waiting_are e in
         both_ways _ _ (λ h. eq-eqb n 0 (omega (arith, left, awaits_none c.system (is_done st) task h)))
@@ -157,7 +168,7 @@ module _ {c : Setting} {st : State} {x : CoreTables} (a : AreCoreTables c st x) 
   start_room task h = omega (arith, a.running_length, a.running_room, h.free)
 
   -- after a start
-  module _ {task n : ℕ} (h : MayStart c st task) (cost : n ≡ need_of c.system task) (change : UsesNeed c st task) where
+  module _ {task n : ℕ} (h : MayStart c st task) (cost : n ≡ shared_need_of c.system task) (change : UsesNeed c st task) where
     pub start_fits : IsSafe c (state_after st Start task) → x.used + n ≤ c.bound
     start_fits safe = omega (arith, a.used_is, cost, change.used, safe.used, safe.booked)
 
@@ -178,6 +189,11 @@ module _ {c : Setting} {st : State} {x : CoreTables} (a : AreCoreTables c st x) 
             long = a.waiting_are.long;
             each = λ k w. a.waiting_are.each k w ∙ sym (awaited_same c.system (is_done (state_after st Start task))
                 (is_done st) (same_done c a.setting st a.safe task h) (slice_index c.order k));
+          };
+          left_are = record {
+            long = a.left_are.long;
+            each = λ j lt. a.left_are.each j lt ∙ sym (left_same (is_done (state_after st Start task)) (is_done st)
+                (same_done c a.setting st a.safe task h) (shared_item_at (shared_items_of c.system) j));
           };
           running_room = room ∙ a.running_room;
           running_numbers = count ∙ a.running_numbers;
@@ -236,7 +252,26 @@ module _ {c : Setting} {st : State} {x : CoreTables} (a : AreCoreTables c st x) 
         );
       }
 
-    module _ (n : ℕ) (freed : n + outputs_of c.system task ≡ need_of c.system task + inputs_of c.system task)
+    -- at its place the row of readings has the shared items that it reads
+    module _ {k : ℕ} (w : k < length c.order) (here : slice_index c.order k ≡ task) where
+      pub finish_reads : ReadsRow c.system (is_done st) (is_done (state_after st Finish task)) task x.left x.fixed.sizes
+          (row_at x.fixed.readings k)
+      finish_reads =
+          reads_row c.system a.setting.system.items (is_done st) (is_done (state_after st Finish task)) task
+          (ap is_done_phase h.running) (finish_adds c a.setting st a.safe task h) x.left x.fixed.sizes (row_at x.fixed.readings k)
+          (a.fixed.readings_are.rows_are k w ∙ ap (λ t. numbers_read t 0 (shared_items_of c.system)) here)
+          a.fixed.sizes_are a.left_are
+
+      pub finish_total : sum_by (slice_index x.fixed.sizes) (row_at x.fixed.readings k) ≤ most_total
+      finish_total = omega (arith, finish_reads.total, a.setting.system.total)
+
+      -- with the fixed part it makes what goes, less what the task leaves
+      pub finish_freed : (n last : ℕ) → n + shared_outputs_of c.system task ≡ shared_need_of c.system task + own_inputs_of c.system task
+          → last ≡ sum_by (λ j. cond (slice_index x.left j == 1) (slice_index x.fixed.sizes j) 0) (row_at x.fixed.readings k)
+          → n + last + shared_outputs_of c.system task ≡ shared_need_of c.system task + freed_by c.system (is_done st) task
+      finish_freed n last fixed last_is = omega (arith, fixed, last_is, finish_reads.freed)
+
+    module _ (n : ℕ) (freed : n + shared_outputs_of c.system task ≡ shared_need_of c.system task + freed_by c.system (is_done st) task)
         (change : FreesNeed c st task) where
       pub finish_frees : (n ≤ x.booked) × (n ≤ x.used)
       finish_frees = (omega (arith, freed, change.booked, a.booked_is), omega (arith, freed, change.used, a.used_is))
@@ -245,18 +280,20 @@ module _ {c : Setting} {st : State} {x : CoreTables} (a : AreCoreTables c st x) 
           → ((t : ℕ) → stands_in now.listed t ≡ (stands_in x.running.listed t && not (t == task))) →
           length now.listed + 1 ≡ length x.running.listed → now.room ≡ x.running.room → now.count ≡ x.running.count →
           (waiting : List ℕ) → AreByPlace c.order (λ t n. n ≡ awaited c.system (is_done (state_after st Finish task)) t) waiting →
+          (left : List ℕ) → AreLeft (is_done (state_after st Finish task)) (shared_items_of c.system) left →
           AreCoreTables c (record { activated = st.activated; phases = set st.phases (task - 1) Done })
-          (record x { waiting = waiting; running = now; booked = x.booked - n; used = x.used - n })
-      finished_tables safe now listed shorter room count waiting waits =
+          (record x { waiting = waiting; left = left; running = now; booked = x.booked - n; used = x.used - n })
+      finished_tables safe now listed shorter room count waiting waits left lefts =
           let is = finish_is_task task h in
           let here = with_phase_same st.phases task Done is.0 (omega (arith, is.1, a.safe.phases)) in
           let tables : AreCoreTables c (state_after st Finish task)
-          (record x { waiting = waiting; running = now; booked = x.booked - n; used = x.used - n }) = record {
+          (record x { waiting = waiting; left = left; running = now; booked = x.booked - n; used = x.used - n }) = record {
             setting = a.setting;
             few_workers = a.few_workers;
             safe = safe;
             fixed = a.fixed;
             waiting_are = waits;
+            left_are = lefts;
             running_room = room ∙ a.running_room;
             running_numbers = count ∙ a.running_numbers;
             running_length = omega (arith, shorter, a.running_length, change.running);

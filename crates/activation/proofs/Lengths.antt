@@ -5,7 +5,7 @@ use Rattle.std.specs.List.{AllByRecursion}
 use Rattle.std.proofs.lemmas.List.Elements.{recursion_from_All}
 use Rattle.std.proofs.lemmas.List.Sums.{sum_by-cons}
 use Rattle.std.proofs.lemmas.Bool.{cases_eq, eq-eqb, ne_eqb}
-use Rattle.mp_system.specs.System.{TaskSystem, IsTask}
+use Rattle.shared_systems.specs.Shared.{SharedTaskSystem, HasTask}
 use Rattle.activation.specs.Schedule.{HoldsEach}
 
 -- the sum of f at 1 to n
@@ -45,7 +45,7 @@ upto_hit x (suc n) low high =
     omega (arith, here, upto_hit x n low (omega arith)))
     (cases_eq x (suc n))
 
-length_upto : (s : TaskSystem) (xs : List ℕ) → AllByRecursion (IsTask s) xs
+length_upto : (s : SharedTaskSystem) (xs : List ℕ) → AllByRecursion (HasTask s) xs
     → length xs ≡ upto (λ v. count_by (λ u. u == v) xs) (length s.tasks)
 length_upto s [] all = sym (upto_zeros (λ v. count_by (λ u. u == v) []) (length s.tasks) (λ v l. refl))
 length_upto s (x ∷ xs) all =
@@ -55,7 +55,7 @@ length_upto s (x ∷ xs) all =
     (λ v. unfold hit in sum_by-cons (λ u. cond (u == v) 1 0) x xs) (length s.tasks) in
     omega (arith, ih, one, sum)
 
-pub each_long : (s : TaskSystem) (xs : List ℕ) → HoldsEach s xs → length xs ≡ length s.tasks
+pub each_long : (s : SharedTaskSystem) (xs : List ℕ) → HoldsEach s xs → length xs ≡ length s.tasks
 each_long s xs h =
-    length_upto s xs (recursion_from_All (IsTask s) xs h.within)
+    length_upto s xs (recursion_from_All (HasTask s) xs h.within)
     ∙ upto_ones (λ v. count_by (λ u. u == v) xs) (length s.tasks) (λ v low high. h.once v (low, high))

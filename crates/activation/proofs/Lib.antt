@@ -3,6 +3,11 @@ pub mod Phases
 pub mod Numbers
 pub mod Placing
 pub mod Consuming
+pub mod Readers
+pub mod ReadNumbers
+pub mod Ends
+pub mod SharedTables
+pub mod LastReaders
 pub mod Sizes
 pub mod Spots
 pub mod Awaiting

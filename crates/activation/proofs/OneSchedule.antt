@@ -5,7 +5,7 @@ use Rattle.activation.specs.declared.events.Phase.TheVariants.{Idle, Running, Do
 use Rattle.activation.specs.declared.events.EventKind.{EventKind}
 use Rattle.activation.specs.declared.events.EventKind.TheVariants.{Activate, Start, Finish}
 use Rattle.activation.specs.declared.events.Event.{Event}
-use Rattle.mp_system.specs.System.{TaskSystem}
+use Rattle.shared_systems.specs.Shared.{SharedTaskSystem}
 use Rattle.mp_system.specs.Memory.{stands_in}
 use Rattle.activation.specs.Machine.{Setting, IsSetting, State, phase_in, MayHappen, state_after, AllDone}
 use Rattle.activation.specs.Runs.{AreLegal, state_after_all}
@@ -23,7 +23,7 @@ pub record IsSame (k l : EventKind) (x y t u : ℕ) : Type 0 where
   pub task : t ≡ u
 
 -- no two tasks stand before each other in a list that holds each once
-not_both : (system : TaskSystem) (xs : List ℕ) → HoldsEach system xs → (t u : ℕ) → StandsBefore xs t u → StandsBefore xs u t → ⊥
+not_both : (system : SharedTaskSystem) (xs : List ℕ) → HoldsEach system xs → (t u : ℕ) → StandsBefore xs t u → StandsBefore xs u t → ⊥
 not_both system xs once t u a b =
     let e = stands_once system xs once t a.place b.later (omega (arith, a.before, a.within)) b.within a.here b.there in
     let f = stands_once system xs once u a.later b.place a.within (omega (arith, b.before, b.within)) a.there b.here in

@@ -6,20 +6,21 @@ use Rattle.std.proofs.lemmas.List.{length-take, get_or-take, take-append-drop}
 use Rattle.std.proofs.lemmas.List.Elements.{All-get_or}
 use Rattle.std.proofs.lemmas.List.Sums.{sum_by_more, sum_by-take-le}
 use Rattle.std.proofs.lemmas.Bool.{cases_order, cases_lt, eq-eqb}
-use Rattle.mp_system.specs.System.{TaskSystem, IsTask}
-use Rattle.mp_system.specs.Memory.{stands_in, is_ready}
-use Rattle.mp_system.specs.Traversal.{IsTraversal}
+use Rattle.shared_systems.specs.Shared.{SharedTaskSystem, HasTask}
+use Rattle.mp_system.specs.Memory.{stands_in}
+use Rattle.shared_systems.specs.SharedMemory.{has_inputs}
+use Rattle.shared_systems.specs.SharedTraversal.{IsSharedTraversal}
 use Rattle.activation.specs.Machine.{Setting, IsSetting}
 use Rattle.activation.specs.Schedule.{HoldsEach}
 use Rattle.activation.proofs.Totals.{in_counted, counted_in, place_in, in_at}
 
-module _ (s : TaskSystem) (order : List ℕ) (tr : HoldsEach s order) where
+module _ (s : SharedTaskSystem) (order : List ℕ) (tr : HoldsEach s order) where
   -- what stands in the order is a task
-  pub task_in_order : (t : ℕ) → stands_in order t ≡ true → IsTask s t
-  task_in_order t h = let p = place_in order t h in subst (IsTask s) p.2 (All-get_or (IsTask s) order p.0 0 p.1 tr.within)
+  pub task_in_order : (t : ℕ) → stands_in order t ≡ true → HasTask s t
+  task_in_order t h = let p = place_in order t h in subst (HasTask s) p.2 (All-get_or (HasTask s) order p.0 0 p.1 tr.within)
 
   -- a task stands in the order
-  pub task_has_place : (t : ℕ) → IsTask s t → stands_in order t ≡ true
+  pub task_has_place : (t : ℕ) → HasTask s t → stands_in order t ≡ true
   task_has_place t is = in_counted order t (omega (arith, tr.once t is))
 
   -- and once
@@ -65,8 +66,8 @@ split_at order k w = sym (take-append-drop k order) ∙ ap (λ xs. take k order 
     drop_at k w = rw add-one (drop-cons order k 0 w)
 
 -- a task is ready once those before it are done
-pub ready_at : (s : TaskSystem) (order : List ℕ) → IsTraversal s order → (k : ℕ)
-    → k < length order → is_ready s (stands_in (take k order)) (get_or order k 0) ≡ true
+pub ready_at : (s : SharedTaskSystem) (order : List ℕ) → IsSharedTraversal s order → (k : ℕ)
+    → k < length order → has_inputs s (stands_in (take k order)) (get_or order k 0) ≡ true
 ready_at s order tr k w = tr.after_suppliers (take k order) (drop (k + 1) order) (get_or order k 0) (split_at order k w)
 
 pub each : {c : Setting} → IsSetting c → HoldsEach c.system c.order

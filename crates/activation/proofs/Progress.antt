@@ -7,14 +7,17 @@ use Rattle.std.proofs.lemmas.Bool.{not-true, not-false, cases_Bool, cases_lt, eq
 use Rattle.activation.specs.declared.events.Phase.{Phase}
 use Rattle.activation.specs.declared.events.Phase.TheVariants.{Idle, Running, Done}
 use Rattle.activation.specs.declared.events.EventKind.TheVariants.{Activate, Start, Finish}
-use Rattle.mp_system.specs.System.{need_of}
-use Rattle.mp_system.specs.Memory.{state_memory, stands_in, is_ready}
+use Rattle.shared_systems.specs.Shared.{shared_need_of}
+use Rattle.shared_systems.specs.SharedMemory.{has_inputs}
+use Rattle.mp_system.specs.Memory.{stands_in}
+use Rattle.shared_systems.proofs.States.{still_has_inputs}
+use Rattle.shared_systems.proofs.Endings.{shared_memory_same}
+use Rattle.shared_systems.proofs.PeakBounds.{peak_running}
 use Rattle.activation.specs.Machine.{Setting, IsSetting, State, phase_in, is_running_phase, is_done_phase}
 use Rattle.activation.specs.Machine.{is_running, is_done, activated_tasks, MayActivate, MayStart, AllDone}
 use Rattle.activation.specs.Runs.{HasNext, NoneRuns, CanBegin}
 use Rattle.activation.specs.Safe.{IsSafe}
 use Rattle.activation.proofs.Totals.{in_at}
-use Rattle.activation.proofs.Premises.{StateSame, ReadyMore, PeakBound}
 use Rattle.activation.proofs.Orders.{each, task_has_place, ready_at, split_at}
 use Rattle.activation.proofs.Phases.{running_from}
 use Rattle.activation.proofs.Safety.{count_zero, sum_zero}
@@ -43,8 +46,8 @@ idle_rest Idle r d = refl
 idle_rest Running r d = cc
 idle_rest Done r d = cc
 
-module _ (state_same : StateSame) (more : ReadyMore) (peak_bound : PeakBound) (c : Setting) (set : IsSetting c)
-    (st : State) (so : IsSafe c st) (quiet : (x : ℕ) → stands_in c.order x ≡ true → is_running st x ≡ false) where
+module _ (c : Setting) (set : IsSetting c) (st : State) (so : IsSafe c st)
+    (quiet : (x : ℕ) → stands_in c.order x ≡ true → is_running st x ≡ false) where
   -- an activated task that is not done may start
   starts : (j : ℕ) → j < length (activated_tasks c st) → is_done st (get_or (activated_tasks c st) j 0) ≡ false
       → ((x : ℕ) → stands_in (take j (activated_tasks c st)) x ≡ true → is_done st x ≡ true) →
@@ -57,9 +60,9 @@ module _ (state_same : StateSame) (more : ReadyMore) (peak_bound : PeakBound) (c
       let is : t ≡ get_or c.order j 0 = get_or-take st.activated c.order j 0 j-front in
       let front = take-take j st.activated c.order (omega arith) in
       let here : stands_in c.order t ≡ true = rw is (in_at c.order j j-order) in
-      let fed : is_ready c.system (is_done st) (get_or c.order j 0) ≡ true =
-      more c.system (stands_in (take j c.order)) (is_done st) (get_or c.order j 0)
-      (λ x y. all x (rw front y)) (ready_at c.system c.order set.traversal j j-order) in (
+      let fed : has_inputs c.system (is_done st) (get_or c.order j 0) ≡ true =
+      still_has_inputs (stands_in (take j c.order)) (is_done st) (λ x y. all x (rw front y)) (get_or c.order j 0) c.system.items
+      (ready_at c.system c.order set.traversal j j-order) in (
         t,
         record {
           activated = in_at (activated_tasks c st) j h;
@@ -74,16 +77,16 @@ module _ (state_same : StateSame) (more : ReadyMore) (peak_bound : PeakBound) (c
       → st.activated < length c.order → (t : ℕ) × MayActivate c st t
   activates all h =
       let front = activated_tasks c st in
-      let none = sum_zero (λ x. cond (is_done st x) 0 (need_of c.system x)) front
-      (λ x y. ap (λ (b : Bool). cond b 0 (need_of c.system x)) (all x y)) in
+      let none = sum_zero (λ x. cond (is_done st x) 0 (shared_need_of c.system x)) front
+      (λ x y. ap (λ (b : Bool). cond b 0 (shared_need_of c.system x)) (all x y)) in
       let same : (x : ℕ) → is_done st x ≡ stands_in front x = λ x.
       ⊎_elim
       (λ y. y ∙ sym (so.activated x (λ z. true≢false (sym y ∙ ap is_done_phase z))))
       (λ n. n ∙ sym (false_from_ne_true (stands_in front x) (λ q. true≢false (sym (all x q) ∙ n))))
       (cases_Bool (is_done st x)) in
-      let here = state_same c.system (is_done st) (stands_in front) same in
-      let most = peak_bound c.system c.order (state_memory c.system (stands_in front) + need_of c.system (get_or c.order st.activated 0))
-      (inr (front, drop (st.activated + 1) c.order, get_or c.order st.activated 0, split_at c.order st.activated h, refl)) in (
+      let here = shared_memory_same c.system (is_done st) (stands_in front) same in
+      let most = peak_running c.system c.order front (drop (st.activated + 1) c.order) (get_or c.order st.activated 0)
+      (split_at c.order st.activated h) in (
         get_or c.order st.activated 0,
         record {
           left = h;
@@ -98,14 +101,14 @@ module _ (state_same : StateSame) (more : ReadyMore) (peak_bound : PeakBound) (c
       (λ h. absurd (open' (λ t is. all t (rw (take_all st.activated c.order h) (task_has_place c.system c.order (each set) t is)))))
       (cases_lt st.activated (length c.order))
 
-pub safe_begins : StateSame → ReadyMore → PeakBound → (c : Setting) → IsSetting c
+pub safe_begins : (c : Setting) → IsSetting c
     → (st : State) → IsSafe c st → NoneRuns st → (AllDone c st → ⊥) → CanBegin c st
-safe_begins same more peak c set st so quiet =
-    begins same more peak c set st so (λ x h. quiet x) (first_not (is_done st) (activated_tasks c st))
+safe_begins c set st so quiet =
+    begins c set st so (λ x h. quiet x) (first_not (is_done st) (activated_tasks c st))
 
-goes_on : StateSame → ReadyMore → PeakBound → (c : Setting) → IsSetting c → (st : State)
+goes_on : (c : Setting) → IsSetting c → (st : State)
     → IsSafe c st → FirstNot (λ x. not (is_running st x)) c.order → (AllDone c st → ⊥) → HasNext c st
-goes_on same more peak c set st so (at j h f all) open' = (
+goes_on c set st so (at j h f all) open' = (
   Finish,
   (
     get_or c.order j 0,
@@ -114,10 +117,10 @@ goes_on same more peak c set st so (at j h f all) open' = (
     },
   ),
 )
-goes_on same more peak c set st so (none all) open' =
+goes_on c set st so (none all) open' =
     ⊎_elim (λ a. (Activate, a)) (λ a. (Start, a))
-    (begins same more peak c set st so (λ x h. not-true (is_running st x) (all x h)) (first_not (is_done st) (activated_tasks c st)) open')
+    (begins c set st so (λ x h. not-true (is_running st x) (all x h)) (first_not (is_done st) (activated_tasks c st)) open')
 
-pub safe_goes_on : StateSame → ReadyMore → PeakBound → (c : Setting)
+pub safe_goes_on : (c : Setting)
     → IsSetting c → (st : State) → IsSafe c st → (AllDone c st → ⊥) → HasNext c st
-safe_goes_on same more peak c set st so = goes_on same more peak c set st so (first_not (λ x. not (is_running st x)) c.order)
+safe_goes_on c set st so = goes_on c set st so (first_not (λ x. not (is_running st x)) c.order)

@@ -5,9 +5,11 @@
 use Rattle.std.specs.Prelude.{◌≡◌, ℕ, zero, suc, ◌+◌, ◌<◌, ◌≤◌, Bool, true, false, if◌then◌else◌, List, length, take, slice_index}
 use Rattle.std.specs.Prelude.{slice_index_or, slice_set, count_by, replicate}
 use Rattle.std.specs.List.{sum_by}
-use Rattle.mp_system.specs.System.{TaskSystem, IsSystem, IsTask, need_of}
-use Rattle.mp_system.specs.Memory.{state_memory, stands_in, is_ready, peak_of}
-use Rattle.mp_system.specs.Traversal.{IsTraversal}
+use Rattle.shared_systems.specs.Shared.{SharedTaskSystem, HasTask, shared_need_of}
+use Rattle.shared_systems.specs.Bounds.{IsSharedSystem}
+use Rattle.shared_systems.specs.SharedMemory.{shared_memory, has_inputs, shared_peak_of}
+use Rattle.mp_system.specs.Memory.{stands_in}
+use Rattle.shared_systems.specs.SharedTraversal.{IsSharedTraversal}
 use Rattle.activation.specs.declared.events.Phase.{Phase}
 use Rattle.activation.specs.declared.events.Phase.TheVariants.{Idle, Running, Done}
 use Rattle.activation.specs.declared.events.EventKind.{EventKind}
@@ -15,16 +17,16 @@ use Rattle.activation.specs.declared.events.EventKind.TheVariants.{Activate, Sta
 
 -- what a machine is given: a system, the order of activation, a bound on memory, and how many workers there are
 pub record Setting : Type 0 where
-  pub system : TaskSystem
+  pub system : SharedTaskSystem
   pub order : List ℕ
   pub bound : ℕ
   pub workers : ℕ
 
 -- the order is a traversal whose peak is within the bound, and there is a worker
 pub record IsSetting (c : Setting) : Type 0 where
-  pub system : IsSystem c.system
-  pub traversal : IsTraversal c.system c.order
-  pub bound : peak_of c.system c.order ≤ c.bound
+  pub system : IsSharedSystem c.system
+  pub traversal : IsSharedTraversal c.system c.order
+  pub bound : shared_peak_of c.system c.order ≤ c.bound
   pub workers : 1 ≤ c.workers
 
 -- a state: so many first tasks of the order are activated, and each task has a phase, the first task the first one
@@ -75,12 +77,12 @@ running_count c st = count_by (is_running st) c.order
 -- booked memory: the items that are present, and the needs of the activated tasks that are not done
 abbrev pub booked_memory : Setting → State → ℕ
 booked_memory c st =
-    state_memory c.system (is_done st) + sum_by (λ t. if is_done st t then 0 else need_of c.system t) (activated_tasks c st)
+    shared_memory c.system (is_done st) + sum_by (λ t. if is_done st t then 0 else shared_need_of c.system t) (activated_tasks c st)
 
 -- used memory: the items that are present, and the needs of the running tasks
 abbrev pub used_memory : Setting → State → ℕ
 used_memory c st =
-    state_memory c.system (is_done st) + sum_by (λ t. if is_running st t then need_of c.system t else 0) c.order
+    shared_memory c.system (is_done st) + sum_by (λ t. if is_running st t then shared_need_of c.system t else 0) c.order
 
 -- the start: nothing is activated, and every task is idle
 abbrev pub start_state : Setting → State
@@ -90,13 +92,13 @@ start_state c = record { activated = 0; phases = replicate (length c.system.task
 pub record MayActivate (c : Setting) (st : State) (t : ℕ) : Type 0 where
   pub left : st.activated < length c.order
   pub next : slice_index c.order st.activated ≡ t
-  pub fits : booked_memory c st + need_of c.system t ≤ c.bound
+  pub fits : booked_memory c st + shared_need_of c.system t ≤ c.bound
 
--- task t may start: it is activated and has not started, what it consumes has been produced, and a worker is free
+-- task t may start: it is activated and has not started, what it reads has been made, and a worker is free
 pub record MayStart (c : Setting) (st : State) (t : ℕ) : Type 0 where
   pub activated : stands_in (activated_tasks c st) t ≡ true
   pub idle : phase_in st.phases t ≡ Idle
-  pub ready : is_ready c.system (is_done st) t ≡ true
+  pub ready : has_inputs c.system (is_done st) t ≡ true
   pub free : running_count c st < c.workers
 
 -- task t may finish: it runs
@@ -117,7 +119,7 @@ state_after st Finish t = record { activated = st.activated; phases = with_phase
 
 -- every task is done
 abbrev pub AllDone : Setting → State → Type 0
-AllDone c st = (t : ℕ) → IsTask c.system t → is_done st t ≡ true
+AllDone c st = (t : ℕ) → HasTask c.system t → is_done st t ≡ true
 
 -- what contracts see of a core: what it was given, and its state
 pub record CoreValue : Type 0 where

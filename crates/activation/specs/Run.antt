@@ -4,7 +4,7 @@ use Rattle.std.specs.Prelude.{◌≡◌, ◌≢◌, ℕ, ◌+◌, ◌*◌, ◌<�
 use Rattle.std.specs.Prelude.{slice_index_or, replicate}
 use Rattle.std.specs.List.{sum_by}
 use Rattle.limits.specs.Limits.{most_time}
-use Rattle.mp_system.specs.System.{IsTask}
+use Rattle.shared_systems.specs.Shared.{HasTask}
 use Rattle.activation.specs.declared.events.Phase.{Phase}
 use Rattle.activation.specs.declared.events.Phase.TheVariants.{Idle, Running, Done}
 use Rattle.activation.specs.declared.room.Room.{Room}
@@ -37,9 +37,9 @@ pub record IsNextDue (c : Setting) (m : Moment) (t : ℕ) : Type 0 where
 
 -- the startable task that stands first in the priority
 pub record IsFirstStartable (c : Setting) (priority : List ℕ) (st : State) (t : ℕ) : Type 0 where
-  pub task : IsTask c.system t
+  pub task : HasTask c.system t
   pub startable : is_startable c st t ≡ true
-  pub first : (u : ℕ) → IsTask c.system u → is_startable c st u ≡ true → u ≢ t → StandsBefore priority t u
+  pub first : (u : ℕ) → HasTask c.system u → is_startable c st u ≡ true → u ≢ t → StandsBefore priority t u
 
 -- the trees and tables of a run
 pub record RunTables : Type 0 where

@@ -1,6 +1,6 @@
 -- Lists of events of the activation machine, one after the other from its start.
 use Rattle.std.specs.Prelude.{◌≡◌, ◌==◌, ℕ, ◌≤◌, Bool, true, false, ◌&&◌, List, [], ◌∷◌, ◌++◌, ◌⊎◌, count_by}
-use Rattle.mp_system.specs.System.{IsTask}
+use Rattle.shared_systems.specs.Shared.{HasTask}
 use Rattle.activation.specs.declared.events.EventKind.{EventKind}
 use Rattle.activation.specs.declared.events.EventKind.TheVariants.{Activate, Start, Finish}
 use Rattle.activation.specs.declared.events.Event.{Event}
@@ -54,4 +54,4 @@ AtMostOnce events = (kind : EventKind) (t : ℕ) → times_of kind t events ≤ 
 
 -- every task is activated, started and finished once
 abbrev pub EachOnce : Setting → List Event → Type 0
-EachOnce c events = (kind : EventKind) (t : ℕ) → IsTask c.system t → times_of kind t events ≡ 1
+EachOnce c events = (kind : EventKind) (t : ℕ) → HasTask c.system t → times_of kind t events ≡ 1

@@ -1,7 +1,7 @@
 -- The simulated run: the one schedule of a setting and a priority, and its trace.
 use Rattle.std.specs.Prelude.{◌≡◌, ◌≢◌, ◌==◌, ℕ, zero, suc, ◌+◌, ◌<◌, ◌≤◌, ◌⊎◌, max, List, [], ◌∷◌, All, length, slice_index, slice_set}
 use Rattle.std.specs.Prelude.{replicate, count_by}
-use Rattle.mp_system.specs.System.{TaskSystem, IsTask, task_at}
+use Rattle.shared_systems.specs.Shared.{SharedTaskSystem, HasTask, shared_task_at}
 use Rattle.activation.specs.declared.events.Phase.TheVariants.{Running}
 use Rattle.activation.specs.declared.events.EventKind.{EventKind}
 use Rattle.activation.specs.declared.events.EventKind.TheVariants.{Activate, Start, Finish}
@@ -28,7 +28,7 @@ pub record Moment : Type 0 where
 -- a task that starts is due its duration later
 abbrev pub dues_after : Setting → List ℕ → EventKind → ℕ → ℕ → List ℕ
 dues_after c dues Activate time t = dues
-dues_after c dues Start time t = with_task_entry dues t (time + (task_at c.system t).time)
+dues_after c dues Start time t = with_task_entry dues t (time + (shared_task_at c.system t).time)
 dues_after c dues Finish time t = dues
 
 -- the moment after an event
@@ -49,9 +49,9 @@ pub record StandsBefore (tasks : List ℕ) (t u : ℕ) : Type 0 where
   pub there : slice_index tasks later ≡ u
 
 -- every task stands in the list once, and nothing else: so much a priority keeps to
-pub record HoldsEach (system : TaskSystem) (tasks : List ℕ) : Type 0 where
-  pub once : (t : ℕ) → IsTask system t → count_by (λ u. u == t) tasks ≡ 1
-  pub within : All (IsTask system) tasks
+pub record HoldsEach (system : SharedTaskSystem) (tasks : List ℕ) : Type 0 where
+  pub once : (t : ℕ) → HasTask system t → count_by (λ u. u == t) tasks ≡ 1
+  pub within : All (HasTask system) tasks
 
 -- no running task is due now, no task may be activated, and none may start
 abbrev pub NoneDue : Moment → Type 0

@@ -3,9 +3,11 @@ ghost use Rattle.std.specs.Prelude.{slice_index_or, count_by, vec_capacity, IfOk
 ghost use Rattle.std.specs.Bool.{OnTrue, OnFalse};
 ghost use Rattle.std.specs.List.{IsDistinct};
 ghost use Rattle.limits.specs.Limits.{most_time, most_workers};
-ghost use Rattle.mp_system.specs.System.{IsTask, task_at};
-ghost use Rattle.mp_system.specs.Memory.{peak_of, stands_in};
-ghost use Rattle.mp_system.specs.Traversal.{IsTraversal};
+ghost use Rattle.shared_systems.specs.Shared.{HasTask, shared_task_at};
+ghost use Rattle.shared_systems.specs.OneReader.{shared_of};
+ghost use Rattle.shared_systems.specs.SharedMemory.{shared_peak_of};
+ghost use Rattle.mp_system.specs.Memory.{stands_in};
+ghost use Rattle.shared_systems.specs.SharedTraversal.{IsSharedTraversal};
 ghost use Rattle.activation.specs.Machine.{CoreValue, IsSetting, MayActivate, MayStart, MayFinish, state_after, start_state, is_running};
 ghost use Rattle.activation.specs.Machine.{is_done, booked_memory, used_memory};
 ghost use Rattle.activation.specs.Safe.{IsSafe};
@@ -18,14 +20,16 @@ use crate::events::{Event, EventKind, Phase};
 use crate::laws::{event_law, start_law};
 use crate::places::{is_number, places_of};
 use crate::rank_set::RankSet;
+use crate::readings::{readings_of, take_readers};
 use crate::refusal::CoreRefusal;
 use crate::running::RunningTasks;
 use crate::start::{start_memory, times_of};
 use crate::sums::needs_of;
 use crate::waiting::{release, waiting_of};
-use mp_system::laws::traversal_law;
 use mp_system::{System, replay};
 use row_table::RowTable;
+use shared_systems::SharedSystem;
+use shared_systems::laws::{one_reader_law, one_reader_system_law, order_law};
 use std::alloc::Global;
 use std::marker::Model;
 use std::snapshot::Snapshot;
@@ -36,7 +40,7 @@ use std::snapshot::Snapshot;
 #[derive(Drop)]
 pub struct Core {
     // The system, for contracts alone: it takes no memory.
-    system: Snapshot<System>,
+    system: Snapshot<SharedSystem>,
     order: Vec<u32>,
     bound: u64,
     workers: u32,
@@ -46,6 +50,10 @@ pub struct Core {
     frees: Vec<u64>,
     consumers: RowTable,
     waiting: Vec<u64>,
+    readings: RowTable,
+    // By the items with several readers, which are numbered from 0.
+    left: Vec<u32>,
+    sizes: Vec<u64>,
     // By the tasks.
     places: Vec<u32>,
     phases: Vec<Phase>,
@@ -73,8 +81,11 @@ impl Model for Core {
             frees = m.frees.items;
             places = m.places.items;
             consumers = m.consumers;
+            readings = m.readings;
+            sizes = m.sizes.items;
           };
           waiting = m.waiting.items;
+          left = m.left.items;
           running = m.running;
           booked = m.booked;
           used = m.used;
@@ -83,10 +94,11 @@ impl Model for Core {
 
 impl Core {
     /// The core at its start. The order is one of activation: a traversal whose peak is within the bound.
-    /// There are 1 to 4,096 workers. Near linear in the tasks and items.
+    /// There are 1 to 4,096 workers. Near linear in the tasks, the items and
+    /// the readers of all items.
     pub fn new(
         alloc: Global,
-        system: &System,
+        system: &SharedSystem,
         order: &[u32],
         bound: u64,
         workers: u32,
@@ -98,36 +110,64 @@ impl Core {
         ensures within { IfOk result (λ core. IsSetting core.setting) }
         ensures refused { IfErr result (IsCoreRefusal system.now order.now bound) }
     {
-        let peak = replay(alloc, system, order)?;
+        let peak = system.peak(alloc, order)?;
         if bound < peak {
             return Err(CoreRefusal::BoundBelow { bound, peak });
         }
         Ok(Core::at_start(alloc, system, order, bound, workers)?)
     }
 
-    // The core of a setting at its start.
-    fn at_start(
+    /// The core at its start, as [`new`](Core::new) gives it, of a system in which each item has at most one consumer. It makes the shared
+    /// system only once the order is known to be a traversal.
+    pub fn of_system(
         alloc: Global,
         system: &System,
         order: &[u32],
         bound: u64,
         workers: u32,
+    ) -> Result<Core, CoreRefusal>
+        requires { (1 ≤ workers) × (workers ≤ most_workers) }
+        ensures setting { IfOk result (λ core.
+            core.setting ≡ record { system = shared_of system.now; order = order.now; bound = bound; workers = workers }) }
+        ensures start { IfOk result (λ core. core.state ≡ start_state core.setting) }
+        ensures within { IfOk result (λ core. IsSetting core.setting) }
+        ensures refused { IfErr result (IsCoreRefusal (shared_of system.now) order.now bound) }
+    {
+        one_reader_law();
+        one_reader_system_law();
+        system.keeps();
+        let peak = replay(alloc, system, order)?;
+        if bound < peak {
+            return Err(CoreRefusal::BoundBelow { bound, peak });
+        }
+        let shared = SharedSystem::of_system(alloc, system)?;
+        Ok(Core::at_start(alloc, &shared, order, bound, workers)?)
+    }
+
+    // The core of a setting at its start.
+    fn at_start(
+        alloc: Global,
+        system: &SharedSystem,
+        order: &[u32],
+        bound: u64,
+        workers: u32,
     ) -> Result<Core, NoMemory>
-        requires traversal { IsTraversal system.now order.now }
-        requires bound { peak_of system.now order.now ≤ bound }
+        requires traversal { IsSharedTraversal system.now order.now }
+        requires bound { shared_peak_of system.now order.now ≤ bound }
         requires workers { (1 ≤ workers) × (workers ≤ most_workers) }
         ensures setting { IfOk result (λ m.
             m.setting ≡ record { system = system.now; order = order.now; bound = bound; workers = workers }) }
         ensures start { IfOk result (λ m. m.state ≡ start_state m.setting) }
     {
         start_law();
-        traversal_law();
+        order_law();
         let count = system.tasks().len();
         let times = times_of(alloc, system, order)?;
         let needs = needs_of(alloc, system, order)?;
         let waiting = waiting_of(alloc, system, order)?;
         let places = places_of(alloc, system, order)?;
         let consumers = consumer_rows(alloc, system, &places)?;
+        let readings = readings_of(alloc, system, &places)?;
         let running = RunningTasks::new(alloc, workers as usize, count)?;
         let phases = vec![in alloc; Phase::Idle; count]?;
         let memory = start_memory(system);
@@ -142,6 +182,9 @@ impl Core {
             frees: needs.frees,
             consumers,
             waiting,
+            readings: readings.rows,
+            left: readings.left,
+            sizes: readings.sizes,
             places,
             phases,
             activated: 0,
@@ -250,7 +293,9 @@ impl Core {
         if !self.phases[at].is_running() {
             return false;
         }
-        let frees = self.frees[place as usize];
+        let fixed = self.frees[place as usize];
+        let last_read = take_readers(self.readings.row(place), &self.sizes, &mut self.left);
+        let frees = fixed + last_read;
         self.phases[at] = Phase::Done;
         self.running.remove(task);
         self.booked -= frees;
@@ -259,7 +304,8 @@ impl Core {
         true
     }
 
-    /// Ends a running task.
+    /// Ends a running task. An item that it reads goes if all its other readers are done. Linear in the readers of what it makes and in the
+    /// items with several readers that it reads.
     pub fn finish(&mut self, task: u32) -> bool
         ensures setting { self.new.setting ≡ self.old.setting }
         ensures legal { IsTrue result ↔ MayFinish self.old.setting self.old.state task }
@@ -291,7 +337,7 @@ impl Core {
     pub fn activated(&self) -> u32
         ensures { result ≡ self.now.state.activated }
     {
-        traversal_law();
+        order_law();
         self.activated as u32
     }
 
@@ -345,7 +391,7 @@ impl Core {
 
     /// Where a task stands in the order, counted from 0.
     pub(crate) fn place_of(&self, task: u32) -> u32
-        requires { IsTask self.now.setting.system task }
+        requires { HasTask self.now.setting.system task }
         ensures within { result < length self.now.setting.order }
         ensures there { slice_index self.now.setting.order result ≡ task }
     {
@@ -355,7 +401,7 @@ impl Core {
     /// How long the task at a place of the order takes.
     pub(crate) fn time_at(&self, place: u32) -> u64
         requires { place < length self.now.setting.order }
-        ensures time { result ≡ (task_at self.now.setting.system (slice_index self.now.setting.order place)).time }
+        ensures time { result ≡ (shared_task_at self.now.setting.system (slice_index self.now.setting.order place)).time }
         ensures long { result ≤ most_time }
     {
         self.times[place as usize]

@@ -1,6 +1,6 @@
 //! Laws over the definitions: each contract is a law.
 ghost use Rattle.std.specs.Prelude.{◌≡◌, ℕ, false, ◌*◌, ◌≤◌, ◌++◌, List, length};
-ghost use Rattle.mp_system.specs.Memory.{state_memory};
+ghost use Rattle.shared_systems.specs.SharedMemory.{shared_memory};
 ghost use Rattle.activation.specs.declared.events.EventKind.{EventKind};
 ghost use Rattle.activation.specs.declared.events.Event.{Event};
 ghost use Rattle.activation.specs.Machine.{Setting, IsSetting, State, MayHappen, state_after, start_state, AllDone, booked_memory};
@@ -10,29 +10,23 @@ ghost use Rattle.activation.specs.Changes.{IsChange};
 ghost use Rattle.activation.specs.Runs.{AreLegal, state_after_all, IsWithinBound, HasNext, NoneRuns, CanBegin, AtMostOnce, EachOnce};
 ghost use Rattle.activation.specs.Schedule.{HoldsEach, IsSchedule, first_moment};
 
-use mp_system::laws::{congruence, peak_law, ready_law, state_step_law, traversal_law};
+use shared_systems::laws::order_law;
 
 /// The start is safe; booked and used memory are there the items that no task produces.
 pub fn start_law()
     ensures safe { (c : Setting) → IsSetting c → IsSafe c (start_state c) }
-    ensures booked { (c : Setting) → booked_memory c (start_state c) ≡ state_memory c.system (λ _. false) }
-    ensures used { (c : Setting) → used_memory c (start_state c) ≡ state_memory c.system (λ _. false) }
-{
-    congruence();
-    peak_law();
-}
+    ensures booked { (c : Setting) → booked_memory c (start_state c) ≡ shared_memory c.system (λ _. false) }
+    ensures used { (c : Setting) → used_memory c (start_state c) ≡ shared_memory c.system (λ _. false) }
+{}
 
-/// Each event leads from a safe state to a safe one; an activation books the task's need, a start uses it, a finish frees it.
+/// Each event leads from a safe state to a safe one; an activation books the task's need, a start uses it, a finish frees it and what
+/// the task is the last to read.
 pub fn event_law()
     ensures kept { (c : Setting) → IsSetting c → (st : State) → IsSafe c st → (kind : EventKind) (t : ℕ) → MayHappen c st kind t →
         IsSafe c (state_after st kind t) }
     ensures change { (c : Setting) → IsSetting c → (st : State) → IsSafe c st → (kind : EventKind) (t : ℕ) → MayHappen c st kind t →
         IsChange c st kind t }
-{
-    congruence();
-    ready_law();
-    state_step_law();
-}
+{}
 
 /// Used memory is at most booked memory, and booked memory at most the bound, after every list of events that the machine has.
 pub fn within_law()
@@ -56,9 +50,6 @@ pub fn progress_law()
 {
     start_law();
     event_law();
-    congruence();
-    ready_law();
-    peak_law();
 }
 
 /// No task is activated, started or finished twice, and no list has more than three events for each task.
@@ -69,7 +60,7 @@ pub fn once_law()
 {
     start_law();
     event_law();
-    traversal_law();
+    order_law();
 }
 
 /// A priority that holds each task once has at most one schedule. Its events are events of the machine; they are one activation, one

@@ -4,7 +4,7 @@ ghost use Rattle.activation.specs.Schedule.{HoldsEach};
 ghost use Rattle.activation.specs.Tables.{AreTaskPlaces, IsNumbering};
 
 use crate::NoMemory;
-use mp_system::System;
+use shared_systems::SharedSystem;
 use std::alloc::Global;
 
 /// Whether this is the number of one of so many tasks.
@@ -15,7 +15,7 @@ pub fn is_number(task: u32, count: usize) -> bool
 }
 
 /// At which place of an order each task stands, counted from 0.
-pub fn places_of(alloc: Global, system: &System, order: &[u32]) -> Result<Vec<u32>, NoMemory>
+pub fn places_of(alloc: Global, system: &SharedSystem, order: &[u32]) -> Result<Vec<u32>, NoMemory>
     requires { HoldsEach system.now order.now }
     ensures there { IfOk result (λ places. AreTaskPlaces order.now places.items) }
     ensures numbers { IfOk result (λ places. IsNumbering (length system.now.tasks) places.items) }

@@ -3,11 +3,11 @@ ghost use Rattle.activation.specs.Schedule.{HoldsEach};
 
 use crate::NoMemory;
 use crate::places::is_number;
-use mp_system::System;
+use shared_systems::SharedSystem;
 use std::alloc::Global;
 
 /// Whether a priority holds each task of a system once, and nothing else: so much [`Simulator::run`](crate::Simulator::run) asks of one.
-pub fn holds_each(alloc: Global, system: &System, priority: &[u32]) -> Result<bool, NoMemory>
+pub fn holds_each(alloc: Global, system: &SharedSystem, priority: &[u32]) -> Result<bool, NoMemory>
     ensures { IfOk result (λ each. IsTrue each ↔ HoldsEach system.now priority.now) }
 {
     let mut found = vec![in alloc; false; system.tasks().len()]?;

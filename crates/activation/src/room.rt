@@ -6,7 +6,7 @@ use crate::NoMemory;
 use crate::clock::Clock;
 use crate::cores::Core;
 use crate::rank_set::RankSet;
-use mp_system::laws::traversal_law;
+use shared_systems::laws::order_law;
 use std::alloc::Global;
 
 /// What a run keeps: the clock, the ranks of the startable tasks, and by the tasks the moments at which they are due; by the places of the
@@ -26,7 +26,7 @@ impl Room {
         ensures { IfOk result (λ room. IsRoom core.now.setting (run_tables room)) }
     {
         core.keeps();
-        traversal_law();
+        order_law();
         let count = core.tasks();
         let clock = Clock::new(alloc, core.workers())?;
         let ready = RankSet::new(alloc, count)?;
@@ -52,7 +52,7 @@ pub fn write_ranks(core: &Core, tasks: &[u32], priority: &mut [u32], ranks: &mut
     ensures ranks { (r : ℕ) → r < length tasks.now → slice_index ranks.new (slice_index priority.new r) ≡ r }
 {
     core.keeps();
-    traversal_law();
+    order_law();
     for rank in 0..tasks.len() {
         let place = core.place_of(tasks[rank]);
         priority[rank] = place;

@@ -1,5 +1,5 @@
 ghost use Rattle.std.specs.Prelude.{◌≡◌, ◌*◌, ◌≤◌, ◌<◌, ℕ, false, length, map, slice_index, IfSome, IfNone};
-ghost use Rattle.mp_system.specs.System.{IsTask};
+ghost use Rattle.shared_systems.specs.Shared.{HasTask};
 ghost use Rattle.activation.specs.declared.events.Phase.TheVariants.{Running as IsRunning};
 ghost use Rattle.activation.specs.Machine.{IsSetting, phase_in, start_state, used_memory, booked_memory, AllDone};
 ghost use Rattle.activation.specs.Safe.{IsSafe};
@@ -13,7 +13,7 @@ use crate::cores::Core;
 use crate::events::{Event, EventKind};
 use crate::laws::{event_law, progress_law};
 use crate::room::{Room, write_ranks};
-use mp_system::laws::traversal_law;
+use shared_systems::laws::order_law;
 use std::marker::Model;
 
 /// A run in simulated time, between two events.
@@ -47,7 +47,7 @@ impl Run {
         ensures moment { result.moment ≡ first_moment core.setting }
     {
         core.keeps();
-        traversal_law();
+        order_law();
         let mut room = room;
         write_ranks(&core, priority, &mut room.priority, &mut room.ranks);
         Run {
@@ -64,7 +64,7 @@ impl Run {
         ensures few_events { event_count self.now.setting self.now.moment.state ≤ 3 * length self.now.setting.system.tasks }
     {
         self.core.keeps();
-        traversal_law();
+        order_law();
     }
 
     /// The time.
@@ -93,11 +93,11 @@ impl Run {
         ensures within { IfSome result (λ k. k < length self.now.setting.order) }
         ensures some { IfSome result (λ k.
             IsFirstStartable self.now.setting self.now.priority self.now.moment.state (slice_index self.now.setting.order k)) }
-        ensures none { IfNone result ((u : ℕ) → IsTask self.now.setting.system u →
+        ensures none { IfNone result ((u : ℕ) → HasTask self.now.setting.system u →
             is_startable self.now.setting self.now.moment.state u ≡ false) }
     {
         self.core.keeps();
-        traversal_law();
+        order_law();
         let rank = self.room.ready.first()?;
         Some(self.room.priority[rank])
     }
@@ -114,7 +114,7 @@ impl Run {
         ensures unchanged { IfNone result (self.new ≡ self.old) }
     {
         self.core.keeps();
-        traversal_law();
+        order_law();
         event_law();
         let next = self.room.clock.take_first()?;
         let task = self.core.task_at(next.place);
@@ -139,7 +139,7 @@ impl Run {
         ensures unchanged { IfNone result (self.new ≡ self.old) }
     {
         self.core.keeps();
-        traversal_law();
+        order_law();
         if self.room.clock.first()?.time > self.time {
             return None;
         }
@@ -180,7 +180,7 @@ impl Run {
         ensures unchanged { IfNone result (self.new ≡ self.old) }
     {
         self.core.keeps();
-        traversal_law();
+        order_law();
         event_law();
         let place = self.first_startable()?;
         let task = self.core.task_at(place);

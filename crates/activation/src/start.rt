@@ -1,28 +1,29 @@
 ghost use Rattle.std.specs.Prelude.{◌≡◌, ℕ, false, All, map, IfOk};
-ghost use Rattle.mp_system.specs.System.{IsTask, task_at};
-ghost use Rattle.mp_system.specs.Memory.{state_memory};
+ghost use Rattle.shared_systems.specs.Shared.{HasTask, shared_task_at};
+ghost use Rattle.shared_systems.specs.SharedMemory.{shared_memory};
 
 use crate::NoMemory;
-use mp_system::System;
+use shared_systems::SharedSystem;
 use std::alloc::Global;
 
 /// The memory before any task has run: the items that no task produces.
-pub fn start_memory(system: &System) -> u64
-    ensures { result ≡ state_memory system.now (λ _. false) }
+pub fn start_memory(system: &SharedSystem) -> u64
+    ensures { result ≡ shared_memory system.now (λ _. false) }
 {
     let mut memory: u64 = 0;
-    for item in system.items() {
-        if item.from.is_none() {
-            memory += item.size;
+    let items = system.items();
+    for i in 0..items.len() {
+        if items.producer(i).is_none() {
+            memory += items.size(i);
         }
     }
     memory
 }
 
 /// How long each task takes, by the places of an order.
-pub fn times_of(alloc: Global, system: &System, order: &[u32]) -> Result<Vec<u64>, NoMemory>
-    requires { All (IsTask system.now) order.now }
-    ensures { IfOk result (λ times. times.items ≡ map (λ t. (task_at system.now t).time) order.now) }
+pub fn times_of(alloc: Global, system: &SharedSystem, order: &[u32]) -> Result<Vec<u64>, NoMemory>
+    requires { All (HasTask system.now) order.now }
+    ensures { IfOk result (λ times. times.items ≡ map (λ t. (shared_task_at system.now t).time) order.now) }
 {
     let tasks = system.tasks();
     order

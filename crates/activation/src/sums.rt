@@ -1,12 +1,13 @@
 ghost use Rattle.std.specs.Prelude.{◌≡◌, ℕ, ◌+◌, ◌<◌, ◌≤◌, ◌^◌, true, All, if◌then◌else◌, length, IfOk};
-ghost use Rattle.mp_system.specs.System.{is_named, need_of, inputs_of, outputs_of, IsTask};
+ghost use Rattle.mp_system.specs.System.{is_named};
+ghost use Rattle.shared_systems.specs.Shared.{only, shared_need_of, own_inputs_of, shared_outputs_of, HasTask};
 ghost use Rattle.activation.specs.Schedule.{task_entry};
 ghost use Rattle.activation.specs.Running.{IsNumber};
 ghost use Rattle.activation.specs.Tables.{AreByPlace};
 
 use crate::NoMemory;
 use crate::places::by_place;
-use mp_system::System;
+use shared_systems::SharedSystem;
 use std::alloc::Global;
 
 /// Adds the size to the sum of the task that is named, if one is.
@@ -19,32 +20,42 @@ pub fn add_size(sums: &mut [u64], task: Option<u32>, size: u64)
     }
 }
 
-/// For each task a number of what it consumes, and one of what it produces.
+// The one reader, where there is just one.
+fn only_of(readers: &[u32]) -> Option<u32>
+    ensures { result ≡ only readers.now }
+{
+    match readers {
+        [reader] => Some(*reader),
+        _ => None,
+    }
+}
+
+/// For each task a number of what it alone reads, and one of what it produces.
 #[derive(Drop)]
 pub struct Sums {
     pub inputs: Vec<u64>,
     pub outputs: Vec<u64>,
 }
 
-// For each task of a system the sizes of what it consumes, together, and of what it produces.
-fn sums_of(alloc: Global, system: &System) -> Result<Sums, NoMemory>
+// For each task of a system the sizes of what it alone reads, together, and of what it produces.
+fn sums_of(alloc: Global, system: &SharedSystem) -> Result<Sums, NoMemory>
     ensures inputs_len { IfOk result (λ sums. length sums.inputs.items ≡ length system.now.tasks) }
-    ensures inputs { IfOk result (λ sums. (t : ℕ) → task_entry sums.inputs.items t ≡ inputs_of system.now t) }
+    ensures inputs { IfOk result (λ sums. (t : ℕ) → task_entry sums.inputs.items t ≡ own_inputs_of system.now t) }
     ensures outputs_len { IfOk result (λ sums. length sums.outputs.items ≡ length system.now.tasks) }
-    ensures outputs { IfOk result (λ sums. (t : ℕ) → task_entry sums.outputs.items t ≡ outputs_of system.now t) }
+    ensures outputs { IfOk result (λ sums. (t : ℕ) → task_entry sums.outputs.items t ≡ shared_outputs_of system.now t) }
 {
     let (tasks, items) = (system.tasks(), system.items());
     let mut inputs: Vec<u64> = vec![in alloc; 0; tasks.len()]?;
     let mut outputs: Vec<u64> = vec![in alloc; 0; tasks.len()]?;
     for i in 0..items.len() {
-        add_size(&mut inputs, items[i].to, items[i].size);
-        add_size(&mut outputs, items[i].from, items[i].size);
+        add_size(&mut inputs, only_of(items.readers(i)), items.size(i));
+        add_size(&mut outputs, items.producer(i), items.size(i));
     }
     Ok(Sums { inputs, outputs })
 }
 
-/// What each task needs while it runs, beside the items that are there; and how much less than that and its outputs stays at its end:
-/// its need and its inputs, less its outputs.
+/// What each task needs while it runs, beside the items that are there; and what goes at its end, if it is the last reader of no item that
+/// others read too: its need and what it alone reads, less its outputs.
 #[derive(Drop)]
 pub struct Needs {
     pub needs: Vec<u64>,
@@ -52,12 +63,12 @@ pub struct Needs {
 }
 
 // The needs of a system's tasks, by their numbers.
-fn needs_by_task(alloc: Global, system: &System) -> Result<Needs, NoMemory>
+fn needs_by_task(alloc: Global, system: &SharedSystem) -> Result<Needs, NoMemory>
     ensures needs_len { IfOk result (λ r. length r.needs.items ≡ length system.now.tasks) }
-    ensures needs { IfOk result (λ r. (t : ℕ) → IsTask system.now t → task_entry r.needs.items t ≡ need_of system.now t) }
+    ensures needs { IfOk result (λ r. (t : ℕ) → HasTask system.now t → task_entry r.needs.items t ≡ shared_need_of system.now t) }
     ensures frees_len { IfOk result (λ r. length r.frees.items ≡ length system.now.tasks) }
-    ensures frees { IfOk result (λ r. (t : ℕ) → IsTask system.now t →
-        task_entry r.frees.items t + outputs_of system.now t ≡ need_of system.now t + inputs_of system.now t) }
+    ensures frees { IfOk result (λ r. (t : ℕ) → HasTask system.now t →
+        task_entry r.frees.items t + shared_outputs_of system.now t ≡ shared_need_of system.now t + own_inputs_of system.now t) }
 {
     let tasks = system.tasks();
     let sums = sums_of(alloc, system)?;
@@ -70,11 +81,11 @@ fn needs_by_task(alloc: Global, system: &System) -> Result<Needs, NoMemory>
 }
 
 /// The needs of a system's tasks, by the places of an order.
-pub fn needs_of(alloc: Global, system: &System, order: &[u32]) -> Result<Needs, NoMemory>
-    requires { All (IsTask system.now) order.now }
-    ensures needs { IfOk result (λ r. AreByPlace order.now (λ t n. n ≡ need_of system.now t) r.needs.items) }
+pub fn needs_of(alloc: Global, system: &SharedSystem, order: &[u32]) -> Result<Needs, NoMemory>
+    requires { All (HasTask system.now) order.now }
+    ensures needs { IfOk result (λ r. AreByPlace order.now (λ t n. n ≡ shared_need_of system.now t) r.needs.items) }
     ensures frees { IfOk result (λ r.
-        AreByPlace order.now (λ t n. n + outputs_of system.now t ≡ need_of system.now t + inputs_of system.now t) r.frees.items) }
+        AreByPlace order.now (λ t n. n + shared_outputs_of system.now t ≡ shared_need_of system.now t + own_inputs_of system.now t) r.frees.items) }
 {
     let tables = needs_by_task(alloc, system)?;
     let needs = by_place(alloc, order, &tables.needs)?;

@@ -1,32 +1,43 @@
-ghost use Rattle.std.specs.Prelude.{◌≡◌, ◌==◌, ℕ, ◌+◌, ◌<◌, ◌≤◌, false, All, length, slice_index, count_by, IfOk};
-ghost use Rattle.mp_system.specs.System.{IsTask};
+ghost use Rattle.std.specs.Prelude.{◌≡◌, ◌==◌, ℕ, ◌+◌, ◌<◌, ◌≤◌, ◌^◌, false, All, length, slice_index, count_by, IfOk};
+ghost use Rattle.shared_systems.specs.Shared.{HasTask};
+ghost use Rattle.activation.specs.Running.{IsNumber};
 ghost use Rattle.activation.specs.Schedule.{task_entry};
 ghost use Rattle.activation.specs.Tables.{is_awaited, AreByPlace};
 
 use crate::NoMemory;
 use crate::places::by_place;
-use crate::sums::add_size;
-use mp_system::System;
+use shared_systems::SharedSystem;
 use std::alloc::Global;
 
+// Adds one to the count of each reader.
+fn add_ones(counts: &mut [u64], readers: &[u32])
+    requires readers { All (λ t. IsNumber t (length counts.old)) readers.now }
+    requires few { (t : ℕ) → task_entry counts.old t + length readers.now < 2 ^ 64 }
+    ensures { (t : ℕ) → task_entry counts.new t ≡ task_entry counts.old t + count_by (λ c. c == t) readers.now }
+{
+    for reader in readers {
+        counts[*reader as usize - 1] += 1;
+    }
+}
+
 // For each task of a system how many items it waits for at the start.
-fn count_waiting(alloc: Global, system: &System) -> Result<Vec<u64>, NoMemory>
+fn count_waiting(alloc: Global, system: &SharedSystem) -> Result<Vec<u64>, NoMemory>
     ensures len { IfOk result (λ waiting. length waiting.items ≡ length system.now.tasks) }
     ensures counts { IfOk result (λ waiting. (t : ℕ) → task_entry waiting.items t ≡ count_by (is_awaited (λ _. false) t) system.now.items) }
 {
     let items = system.items();
     let mut waiting: Vec<u64> = vec![in alloc; 0; system.tasks().len()]?;
     for i in 0..items.len() {
-        if items[i].from.is_some() {
-            add_size(&mut waiting, items[i].to, 1);
+        if items.producer(i).is_some() {
+            add_ones(&mut waiting, items.readers(i));
         }
     }
     Ok(waiting)
 }
 
 /// By the places of an order how many items the task there waits for at the start.
-pub fn waiting_of(alloc: Global, system: &System, order: &[u32]) -> Result<Vec<u64>, NoMemory>
-    requires { All (IsTask system.now) order.now }
+pub fn waiting_of(alloc: Global, system: &SharedSystem, order: &[u32]) -> Result<Vec<u64>, NoMemory>
+    requires { All (HasTask system.now) order.now }
     ensures { IfOk result (λ waiting. AreByPlace order.now
         (λ t n. n ≡ count_by (is_awaited (λ _. false) t) system.now.items) waiting.items) }
 {

@@ -1,3 +1,6 @@
+mod fans;
+mod many;
+mod one_reader;
 mod plain;
 mod random;
 mod rows;

@@ -12,6 +12,7 @@ ghost use Rattle.claim_check.specs.Verdicts.{IsVerdict};
 ghost use Rattle.claim_check.specs.declared.verdict.Verdict.TheVariants.{Yes};
 ghost use Rattle.activation.specs.Machine.{IsSetting, start_state};
 ghost use Rattle.activation.specs.Refusal.{IsCoreRefusal};
+ghost use Rattle.shared_systems.specs.OneReader.{shared_of};
 ghost use Rattle.least_peak.specs.Best.{IsBestTraversal};
 ghost use Rattle.least_peak.specs.Problem.{system_of, IsTermOf};
 ghost use Rattle.least_peak.specs.declared.problem.Origin.TheVariants as origins;
@@ -249,12 +250,12 @@ impl Problem {
     ) -> Result<Core, CoreRefusal>
         requires { (1 ≤ workers) × (workers ≤ most_workers) }
         ensures setting { IfOk result (λ core. core.setting
-            ≡ record { system = system_of self.now; order = order.now; bound = bound; workers = workers }) }
+            ≡ record { system = shared_of (system_of self.now); order = order.now; bound = bound; workers = workers }) }
         ensures start { IfOk result (λ core. core.state ≡ start_state core.setting) }
         ensures within { IfOk result (λ core. IsSetting core.setting) }
-        ensures refused { IfErr result (IsCoreRefusal (system_of self.now) order.now bound) }
+        ensures refused { IfErr result (IsCoreRefusal (shared_of (system_of self.now)) order.now bound) }
     {
         let system = self.system(alloc)?;
-        Core::new(alloc, &system, order, bound, workers)
+        Core::of_system(alloc, &system, order, bound, workers)
     }
 }

@@ -12,6 +12,10 @@ use Rattle.trees.specs.declared.node.Node.{Node}
 use Rattle.trees.specs.Tree.{task_of_node}
 use Rattle.assembly_tree.specs.declared.assembly.Super.{Super}
 use Rattle.assembly_tree.specs.Assembly.{AssemblyTree, IsAssembly, IsSuper, no_super, super_at}
+use Rattle.mp_system.specs.Memory.{is_ready}
+use Rattle.shared_systems.specs.SharedMemory.{has_inputs}
+use Rattle.shared_systems.specs.OneReader.{shared_of}
+use Rattle.shared_systems.proofs.SameSystems.{inputs_ready}
 use Rattle.activation.specs.declared.events.Event.{Event}
 use Rattle.activation.specs.Machine.{AllDone}
 use Rattle.activation.specs.Schedule.{IsSchedule, first_moment}
@@ -64,6 +68,11 @@ unit_time assembly is t task =
     ap (λ x. x.time) (get_or-map task_of_node (map row_node assembly.supers) (t - 1) (row_node no_super) _ (omega (arith, lt, long)))
     ∙ ap (λ (x : Node). x.time) (get_or-map row_node assembly.supers (t - 1) no_super (row_node no_super) lt)
 
+-- a task that has its inputs is ready
+is_ready_row : (assembly : AssemblyTree) (done : ℕ → Bool) (s : ℕ) → has_inputs (shared_of (row_system assembly.supers)) done s ≡ true
+    → is_ready (row_system assembly.supers) done s ≡ true
+is_ready_row assembly done s ready = sym (inputs_ready (row_system assembly.supers) done s) ∙ ready
+
 module _ (assembly : AssemblyTree) (is : IsAssembly assembly) (bound workers : ℕ) (events : List Event) (rounds : List (List ℕ))
     (schedule : IsSchedule (row_setting assembly.supers bound workers) (row_order assembly.supers)
     (first_moment (row_setting assembly.supers bound workers)) events)
@@ -73,7 +82,8 @@ module _ (assembly : AssemblyTree) (is : IsAssembly assembly) (bound workers : �
   end_is =
       timely_end (row_setting assembly.supers bound workers) (IsChildOf assembly.supers) (unit_time assembly is)
       (row_traversal assembly is).tasks
-      (λ done s t ready task child. child_done assembly is done s t ready child.0 child.1 (super_of_task assembly is s task))
+      (λ done s t ready task child. child_done assembly is done s t (is_ready_row assembly done s ready) child.0 child.1
+      (super_of_task assembly is s task))
       (row_order assembly.supers) events schedule
 
   -- what stands in a round started at its moment, and the other way round
@@ -91,7 +101,8 @@ module _ (assembly : AssemblyTree) (is : IsAssembly assembly) (bound workers : �
         all = λ s super. (
             let start = all_started (row_setting assembly.supers bound workers) (IsChildOf assembly.supers) (unit_time assembly is)
             (row_traversal assembly is).tasks
-            (λ done s t ready task child. child_done assembly is done s t ready child.0 child.1 (super_of_task assembly is s task))
+            (λ done s t ready task child. child_done assembly is done s t (is_ready_row assembly done s ready) child.0 child.1
+            (super_of_task assembly is s task))
             events end_is.0 ok end_is.2 s (task_of_super assembly is s super) in
             let there = in_round start.0 s start.1 in
             list_any_at (λ list. has list s) rounds start.0 [] (round_there rounds start.0 s there) there

@@ -9,8 +9,9 @@ use Rattle.std.proofs.lemmas.List.{append-nil, append_assoc, map-append, length_
 use Rattle.std.proofs.lemmas.List.Elements.{filter-append, All-take}
 use Rattle.std.proofs.lemmas.Map.Keys.{IsDistinct-push}
 use Rattle.patterns.specs.Pattern.{has}
-use Rattle.mp_system.specs.System.{IsTask, task_at}
-use Rattle.mp_system.specs.Memory.{stands_in, is_ready}
+use Rattle.mp_system.specs.Memory.{stands_in}
+use Rattle.shared_systems.specs.Shared.{HasTask, shared_task_at}
+use Rattle.shared_systems.specs.SharedMemory.{has_inputs}
 use Rattle.activation.specs.declared.events.Phase.{Phase}
 use Rattle.activation.specs.declared.events.Phase.TheVariants.{Idle, Running, Done}
 use Rattle.activation.specs.declared.events.EventKind.{EventKind}
@@ -143,14 +144,14 @@ pub record IsTimely (c : Setting) (supplies : ℕ → ℕ → Type 0) (hist : Li
   pub soon : (u : ℕ) → phase_in m.state.phases u ≡ Running
       → (k : ℕ) × (task_entry m.dues u ≡ k + 1) × (k ≤ m.time) × (has (started_at k hist) u ≡ true)
   pub done : (u : ℕ) → phase_in m.state.phases u ≡ Done → (k : ℕ) × (k < m.time) × (has (started_at k hist) u ≡ true)
-  pub tasks : (k u : ℕ) → has (started_at k hist) u ≡ true → IsTask c.system u
+  pub tasks : (k u : ℕ) → has (started_at k hist) u ≡ true → HasTask c.system u
   pub once : (k : ℕ) → IsDistinct eqb (started_at k hist)
   pub apart : (j k u : ℕ) → has (started_at j hist) u ≡ true → has (started_at k hist) u ≡ true → j ≡ k
   pub supplied : (k u v : ℕ) → has (started_at k hist) u ≡ true → supplies v u → (j : ℕ) × (j < k) × (has (started_at j hist) v ≡ true)
 
-module _ (c : Setting) (supplies : ℕ → ℕ → Type 0) (unit : (t : ℕ) → IsTask c.system t → (task_at c.system t).time ≡ 1)
-    (order_tasks : All (IsTask c.system) c.order)
-    (ready : (done : ℕ → Bool) (s t : ℕ) → is_ready c.system done s ≡ true → IsTask c.system s → supplies t s → done t ≡ true) where
+module _ (c : Setting) (supplies : ℕ → ℕ → Type 0) (unit : (t : ℕ) → HasTask c.system t → (shared_task_at c.system t).time ≡ 1)
+    (order_tasks : All (HasTask c.system) c.order)
+    (ready : (done : ℕ → Bool) (s t : ℕ) → has_inputs c.system done s ≡ true → HasTask c.system s → supplies t s → done t ≡ true) where
   timely_first : IsTimely c supplies [] (first_moment c)
   timely_first = record {
     phases_long = length-replicate (length c.system.tasks) Idle;
@@ -166,10 +167,10 @@ module _ (c : Setting) (supplies : ℕ → ℕ → Type 0) (unit : (t : ℕ) →
     supplied = λ k u v there by. absurd (both_ways _ refl there);
   }
 
-  activated_task : (k t : ℕ) → stands_in (take k c.order) t ≡ true → IsTask c.system t
+  activated_task : (k t : ℕ) → stands_in (take k c.order) t ≡ true → HasTask c.system t
   activated_task k t there =
       let place = place_in (take k c.order) t there in
-      subst (IsTask c.system) place.2 (All-take (IsTask c.system) k c.order order_tasks place.0 0 place.1)
+      subst (HasTask c.system) place.2 (All-take (HasTask c.system) k c.order order_tasks place.0 0 place.1)
 
   timely_activate : (priority : List ℕ) (hist : List Event) (m : Moment) (time t : ℕ) → IsTimely c supplies hist m
       → ComesNext c priority m Activate time t
@@ -211,7 +212,7 @@ module _ (c : Setting) (supplies : ℕ → ℕ → Type 0) (unit : (t : ℕ) →
         | inl now ↦ omega (arith, now)
         | inr idle ↦ (let after = idle.0 t next.legal.running in omega (arith, after, due))
       ] in
-      let task : IsTask c.system t = ok.tasks own.0 t own.3 in
+      let task : HasTask c.system t = ok.tasks own.0 t own.3 in
       let here = phase_here m.state.phases t Done task.0 (omega (arith, task.1, ok.phases_long)) in
       let other = λ (u : ℕ) (ne : u ≢ t). phase_other m.state.phases t u Done ne in
       record {
@@ -253,18 +254,18 @@ module _ (c : Setting) (supplies : ℕ → ℕ → Type 0) (unit : (t : ℕ) →
       let longer = length_push hist e in
       let moments = round_count_more hist e in
       let now = next.now_is in
-      let task : IsTask c.system t = activated_task m.state.activated t next.legal.activated in
+      let task : HasTask c.system t = activated_task m.state.activated t next.legal.activated in
       let one = unit t task in
       let none = ok.idle t next.legal.idle in
       let new : has (started_at time (hist ++ e ∷ [])) t ≡ true =
       ap (λ z. has z t) (started_more time t hist) ∙ has_push (started_at time hist) t t ∙ or_right _ _ (eq-eqb t t refl) in
       let here = phase_here m.state.phases t Running task.0 (omega (arith, task.1, ok.phases_long)) in
       let other = λ (u : ℕ) (ne : u ≢ t). phase_other m.state.phases t u Running ne in
-      let due = entry_here m.dues t (time + (task_at c.system t).time) task.0 (omega (arith, task.1, ok.dues_long)) in
+      let due = entry_here m.dues t (time + (shared_task_at c.system t).time) task.0 (omega (arith, task.1, ok.dues_long)) in
       let cases = λ (k u : ℕ) (there : has (started_at k (hist ++ e ∷ [])) u ≡ true). started_cases k u time t hist there in
       record {
         phases_long = phases_stay m.state.phases t Running ∙ ok.phases_long;
-        dues_long = entries_stay m.dues t (time + (task_at c.system t).time) ∙ ok.dues_long;
+        dues_long = entries_stay m.dues t (time + (shared_task_at c.system t).time) ∙ ok.dues_long;
         few = omega (arith, ok.few, now, longer);
         counted = omega (arith, ok.counted, ok.few, now, longer, moments);
         idle = λ u is k. elim (cases_eq u t) [
@@ -277,20 +278,20 @@ module _ (c : Setting) (supplies : ℕ → ℕ → Type 0) (unit : (t : ℕ) →
         soon = λ u is. elim (cases_eq u t) [
           | inl at ↦ (
             time,
-            ap (task_entry (with_task_entry m.dues t (time + (task_at c.system t).time))) at ∙ due ∙ ap (λ z. time + z) one,
+            ap (task_entry (with_task_entry m.dues t (time + (shared_task_at c.system t).time))) at ∙ due ∙ ap (λ z. time + z) one,
             omega arith,
             ap (λ z. has (started_at time (hist ++ e ∷ [])) z) at ∙ new,
           )
           | inr ne ↦ (
               let s = ok.soon u (sym (other u ne) ∙ is) in
-              (s.0, entry_other m.dues t u (time + (task_at c.system t).time) ne ∙ s.1, omega (arith, s.2, now), old s.0 u s.3)
+              (s.0, entry_other m.dues t u (time + (shared_task_at c.system t).time) ne ∙ s.1, omega (arith, s.2, now), old s.0 u s.3)
               )
         ];
         done = λ u is. elim (cases_eq u t) [
           | inl at ↦ absurd (running_not_done (sym here ∙ ap (phase_in (with_phase m.state.phases t Running)) (sym at) ∙ is))
           | inr ne ↦ (let s = ok.done u (sym (other u ne) ∙ is) in (s.0, omega (arith, s.1, now), old s.0 u s.2))
         ];
-        tasks = λ k u there. elim (cases k u there) [ inl before ↦ ok.tasks k u before | inr same ↦ subst (IsTask c.system) same.1 task ];
+        tasks = λ k u there. elim (cases k u there) [ inl before ↦ ok.tasks k u before | inr same ↦ subst (HasTask c.system) same.1 task ];
         once = λ k. elim (cases_eq time k) [
           | inl at ↦ subst (λ z. IsDistinct eqb (started_at z (hist ++ e ∷ []))) at
               (subst (IsDistinct eqb) (sym (started_more time t hist))
@@ -341,5 +342,5 @@ module _ (c : Setting) (supplies : ℕ → ℕ → Type 0) (unit : (t : ℕ) →
 
   -- every task started
   pub all_started : (es : List Event) (end : Moment) → IsTimely c supplies es end → AllDone c end.state
-      → (t : ℕ) → IsTask c.system t → (k : ℕ) × (has (started_at k es) t ≡ true)
+      → (t : ℕ) → HasTask c.system t → (k : ℕ) × (has (started_at k es) t ≡ true)
   all_started es end ok all t task = let s = ok.done t (done_from _ (all t task)) in (s.0, s.2)

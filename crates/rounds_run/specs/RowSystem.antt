@@ -6,6 +6,7 @@ use Rattle.mp_system.specs.System.{TaskSystem}
 use Rattle.mp_system.specs.Memory.{peak_of}
 use Rattle.trees.specs.declared.node.Node.{Node}
 use Rattle.trees.specs.Tree.{system_of_nodes}
+use Rattle.shared_systems.specs.OneReader.{shared_of}
 use Rattle.activation.specs.Machine.{Setting}
 use Rattle.assembly_tree.specs.declared.assembly.Super.{Super}
 
@@ -26,4 +27,4 @@ row_peak supers = peak_of (row_system supers) (row_order supers)
 -- the setting of the activation machine
 abbrev pub row_setting : List Super → ℕ → ℕ → Setting
 row_setting supers bound workers =
-    record { system = row_system supers; order = row_order supers; bound = bound; workers = workers }
+    record { system = shared_of (row_system supers); order = row_order supers; bound = bound; workers = workers }

@@ -16,6 +16,7 @@ use activation::laws::once_law;
 use activation::{Core, CoreRefusal, Simulator};
 use assembly_tree::Assembly;
 use row_table::NumberList;
+use shared_systems::laws::one_reader_law;
 use std::alloc::Global;
 
 /// The rounds of the supernodes, and the greatest number of rows that they use.
@@ -41,8 +42,9 @@ fn row_core(
     ensures within { IfOk result (λ core. IsSetting core.setting) }
     ensures refused { IfErr result (IsFrontsRefusal assembly.now.supers bound) }
 {
+    one_reader_law();
     let system = row_system(alloc, assembly)?;
-    match Core::new(alloc, &system, order, bound, workers) {
+    match Core::of_system(alloc, &system, order, bound, workers) {
         Ok(core) => Ok(core),
         Err(CoreRefusal::BoundBelow { bound, peak }) => Err(FrontsRefusal::BoundBelow {
             bound,

@@ -1,13 +1,16 @@
 //! A plain, slow simulator, straight from the rule: lists of tasks, and a look at every task for each event.
 
+ghost use Rattle.std.specs.Prelude.{◌<◌, length};
+
 use activation::{Event, EventKind, NoMemory, Trace};
-use mp_system::{Item, System, Task};
+use mp_system::Task;
+use shared_systems::{SharedItems, SharedSystem};
 use std::alloc::Global;
 
 /// What a run is given.
 #[derive(Clone, Copy)]
 pub struct Given<'a> {
-    pub system: &'a System,
+    pub system: &'a SharedSystem,
     pub order: &'a [u32],
     pub bound: u64,
     pub workers: u32,
@@ -23,24 +26,29 @@ struct PlainRun {
     done: Vec<u32>,
 }
 
-fn is_present(item: Item, done: &[u32]) -> bool {
-    item.from.is_none_or(|task| done.contains(&task))
-        && !item.to.is_some_and(|task| done.contains(&task))
+// Whether an item is there: its producer is done, and not all of its readers are.
+fn is_held(items: &SharedItems, i: usize, done: &[u32]) -> bool
+    requires { i < length items.now }
+{
+    let readers = items.readers(i);
+    items.producer(i).is_none_or(|task| done.contains(&task))
+        && (readers.is_empty() || !readers.iter().all(|task| done.contains(task)))
 }
 
-fn task_of(system: &System, number: u32) -> Option<Task> {
+fn task_of(system: &SharedSystem, number: u32) -> Option<Task> {
     system.tasks().get(number.checked_sub(1)? as usize).copied()
 }
 
 // What a task needs while it runs, beside the items that are there.
-fn need(system: &System, number: u32) -> u64 {
+fn need(system: &SharedSystem, number: u32) -> u64 {
     let Some(task) = task_of(system, number) else {
         return 0;
     };
     let mut sum = task.extra;
-    for item in system.items() {
-        if item.from == Some(number) {
-            sum = sum.saturating_add(item.size);
+    let items = system.items();
+    for i in 0..items.len() {
+        if items.producer(i) == Some(number) {
+            sum = sum.saturating_add(items.size(i));
         }
     }
     sum.saturating_sub(task.share)
@@ -51,17 +59,26 @@ impl PlainRun {
         self.running.iter().find(|it| it.0 == task).map(|it| it.1)
     }
 
-    fn is_ready(&self, system: &System, task: u32) -> bool {
-        let mut inputs = system.items().iter().filter(|item| item.to == Some(task));
-        inputs.all(|item| item.from.is_none_or(|from| self.done.contains(&from)))
+    fn is_ready(&self, system: &SharedSystem, task: u32) -> bool {
+        let items = system.items();
+        for i in 0..items.len() {
+            let made = items
+                .producer(i)
+                .is_none_or(|from| self.done.contains(&from));
+            if items.readers(i).contains(&task) && !made {
+                return false;
+            }
+        }
+        true
     }
 
     // The items that are present, and what these tasks need.
-    fn memory(&self, system: &System, tasks: &[u32]) -> u64 {
+    fn memory(&self, system: &SharedSystem, tasks: &[u32]) -> u64 {
         let mut sum: u64 = 0;
-        for item in system.items() {
-            if is_present(*item, &self.done) {
-                sum = sum.saturating_add(item.size);
+        let items = system.items();
+        for i in 0..items.len() {
+            if is_held(items, i, &self.done) {
+                sum = sum.saturating_add(items.size(i));
             }
         }
         for task in tasks {
@@ -70,12 +87,12 @@ impl PlainRun {
         sum
     }
 
-    fn used(&self, alloc: Global, system: &System) -> Result<u64, NoMemory> {
+    fn used(&self, alloc: Global, system: &SharedSystem) -> Result<u64, NoMemory> {
         let running: Vec<u32> = self.running.iter().map(|it| it.0).collect(alloc)?;
         Ok(self.memory(system, &running))
     }
 
-    fn booked(&self, alloc: Global, system: &System) -> Result<u64, NoMemory> {
+    fn booked(&self, alloc: Global, system: &SharedSystem) -> Result<u64, NoMemory> {
         let mut left = Vec::from_slice(alloc, &self.activated)?;
         left.retain(|task| !self.done.contains(task));
         Ok(self.memory(system, &left))
@@ -145,7 +162,12 @@ impl PlainRun {
     }
 
     // Notes the memory of this moment.
-    fn note(&self, alloc: Global, system: &System, trace: &mut Trace) -> Result<(), NoMemory> {
+    fn note(
+        &self,
+        alloc: Global,
+        system: &SharedSystem,
+        trace: &mut Trace,
+    ) -> Result<(), NoMemory> {
         trace.used = trace.used.max(self.used(alloc, system)?);
         trace.booked = trace.booked.max(self.booked(alloc, system)?);
         Ok(())

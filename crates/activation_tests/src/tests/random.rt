@@ -1,14 +1,15 @@
 //! Random small systems: the simulator beside the plain one.
 
-ghost use Rattle.std.specs.Prelude.{◌≡◌, ◌<◌, ◌≤◌};
-ghost use Rattle.std.specs.Option.{ForSome};
+ghost use Rattle.std.specs.Prelude.{◌<◌};
 
 use crate::tests::plain::Given;
 use crate::tests::rows::compare;
+use crate::tests::systems::{item, made, task};
 use activation::NoMemory;
-use mp_system::{Item, System, Task, replay};
+use mp_system::GivenTask;
 use rand_core::utils::NextWord;
 use rand_pcg::Pcg32;
+use shared_systems::{GivenSharedItem, SharedSystem};
 use std::alloc::Global;
 use std::process::Abort;
 use std::rt::HostRuntime;
@@ -22,60 +23,54 @@ fn below(dice: &mut Pcg32, n: u32) -> u32
     dice.next_word() % n
 }
 
-fn random_task(dice: &mut Pcg32) -> Task
-    ensures extra { result.extra < 10 }
-    ensures share { result.share ≡ 0 }
-    ensures time { (1 ≤ result.time) × (result.time < 5) }
-{
-    Task {
-        extra: u64::from(below(dice, 10)),
-        share: 0,
-        time: 1 + u64::from(below(dice, 4)),
+fn random_task(dice: &mut Pcg32) -> GivenTask {
+    task(u64::from(below(dice, 10)), 0, u64::from(1 + below(dice, 4)))
+}
+
+// The later of six tasks, each once in two times; at most so many.
+fn push_readers(
+    dice: &mut Pcg32,
+    readers: &mut Vec<u32>,
+    from: u32,
+    most: u32,
+) -> Result<u32, NoMemory> {
+    let mut count: u32 = 0;
+    for reader in 2..7u32 {
+        if reader > from && count < most && below(dice, 2) == 0 {
+            readers.push(reader)?;
+            count = count.saturating_add(1);
+        }
     }
+    Ok(count)
 }
 
-// This task, three times of four.
-fn maybe(dice: &mut Pcg32, task: u32) -> Option<u32>
-    ensures { ForSome result (λ t. t ≡ task) }
-{
-    (below(dice, 4) > 0).then_some(task)
+// An item of a producer, or of none; later tasks read it.
+fn random_item(
+    dice: &mut Pcg32,
+    readers: &mut Vec<u32>,
+    from: u32,
+    most: u32,
+) -> Result<GivenSharedItem, NoMemory> {
+    let size = u64::from(below(dice, 10));
+    let count = push_readers(dice, readers, from, most)?;
+    Ok(item(size, from, count))
 }
 
-fn random_item(dice: &mut Pcg32, from: u32, to: u32) -> Item
-    ensures size { result.size < 10 }
-    ensures producer { ForSome result.from (λ t. t ≡ from) }
-    ensures consumer { ForSome result.to (λ t. t ≡ to) }
-{
-    Item {
-        size: u64::from(below(dice, 10)),
-        from: maybe(dice, from),
-        to: maybe(dice, to),
+// Six tasks, an input, and an item of each of the first five tasks, each with at most so many readers.
+fn random_system(alloc: Global, dice: &mut Pcg32, most: u32) -> Result<SharedSystem, Fail> {
+    let mut tasks = Vec::new(alloc);
+    let mut items = Vec::new(alloc);
+    let mut readers = Vec::new(alloc);
+    for from in 0..6u32 {
+        tasks.push(random_task(dice))?;
+        items.push(random_item(dice, &mut readers, from, most)?)?;
     }
+    made(alloc, &tasks, &items, &readers)
 }
 
-// Five tasks, and items from tasks to later ones.
-fn random_system(alloc: Global, dice: &mut Pcg32) -> Result<System, NoMemory> {
-    let tasks = vec![in alloc;
-        random_task(dice),
-        random_task(dice),
-        random_task(dice),
-        random_task(dice),
-        random_task(dice),
-    ]?;
-    let items = vec![in alloc;
-        random_item(dice, 1, 2),
-        random_item(dice, 1, 4),
-        random_item(dice, 2, 5),
-        random_item(dice, 3, 4),
-        random_item(dice, 3, 5),
-        random_item(dice, 4, 5),
-    ]?;
-    Ok(System::new(tasks, items))
-}
-
-// The numbers 1 to 5 in random order.
-fn shuffled(dice: &mut Pcg32) -> [u32; 5] {
-    let mut numbers = [1, 2, 3, 4, 5];
+// The numbers 1 to 6 in random order.
+fn shuffled(dice: &mut Pcg32) -> [u32; 6] {
+    let mut numbers = [1, 2, 3, 4, 5, 6];
     for i in 1..numbers.len() {
         let other = below(dice, i as u32 + 1) as usize;
         (numbers[i], numbers[other]) = (numbers[other], numbers[i]);
@@ -84,20 +79,20 @@ fn shuffled(dice: &mut Pcg32) -> [u32; 5] {
 }
 
 // This order, where it is a traversal, or the one that always is.
-fn traversal(alloc: Global, system: &System, order: [u32; 5]) -> [u32; 5] {
-    if replay(alloc, system, &order).is_ok() {
+fn traversal(alloc: Global, system: &SharedSystem, order: [u32; 6]) -> [u32; 6] {
+    if system.peak(alloc, &order).is_ok() {
         order
     } else {
-        [1, 2, 3, 4, 5]
+        [1, 2, 3, 4, 5, 6]
     }
 }
 
 // A random system along a random order, by a random priority, within a bound of its peak or more.
-fn compare_one(rt: &impl Abort, alloc: Global, dice: &mut Pcg32) -> Result<(), Fail> {
-    let system = random_system(alloc, dice)?;
+fn compare_one(rt: &impl Abort, alloc: Global, dice: &mut Pcg32, most: u32) -> Result<(), Fail> {
+    let system = random_system(alloc, dice, most)?;
     let order = traversal(alloc, &system, shuffled(dice));
     let priority = shuffled(dice);
-    let peak = replay(alloc, &system, &order)?;
+    let peak = system.peak(alloc, &order)?;
     let given = Given {
         system: &system,
         order: &order,
@@ -105,7 +100,9 @@ fn compare_one(rt: &impl Abort, alloc: Global, dice: &mut Pcg32) -> Result<(), F
         workers: 1 + below(dice, 3),
         priority: &priority,
     };
-    compare(rt, alloc, given)?;
+    let trace = compare(rt, alloc, given)?;
+    assert!(rt; trace.used <= trace.booked && trace.booked <= given.bound);
+    assert_eq!(rt; trace.events.len(), 18);
     Ok(())
 }
 
@@ -113,7 +110,16 @@ fn compare_one(rt: &impl Abort, alloc: Global, dice: &mut Pcg32) -> Result<(), F
 fn random_systems_run_as_the_rule_says(rt: HostRuntime) -> Result<(), Fail> {
     let mut dice = Pcg32::new(7, 11);
     for _ in 0..400u32 {
-        compare_one(&rt, rt.alloc(), &mut dice)?;
+        compare_one(&rt, rt.alloc(), &mut dice, 6)?;
+    }
+    Ok(())
+}
+
+#[test]
+fn random_systems_of_one_reader_run_as_the_rule_says(rt: HostRuntime) -> Result<(), Fail> {
+    let mut dice = Pcg32::new(11, 7);
+    for _ in 0..400u32 {
+        compare_one(&rt, rt.alloc(), &mut dice, 1)?;
     }
     Ok(())
 }

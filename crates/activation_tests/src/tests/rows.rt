@@ -6,14 +6,15 @@ ghost use Rattle.limits.specs.Limits.{most_workers};
 use crate::tests::plain::{Given, plain_run};
 use crate::tests::systems::{arrow, star, still, tree};
 use activation::{Core, CoreRefusal, EventKind, Simulator, Trace, holds_each};
-use mp_system::{OrderFault, OrderKind, System};
+use mp_system::{OrderFault, OrderKind};
+use shared_systems::SharedSystem;
 use std::alloc::Global;
 use std::process::Abort;
 use std::rt::HostRuntime;
 use std::test::Fail;
 
-// The simulated run.
-fn run(alloc: Global, given: Given) -> Result<Trace, Fail>
+/// The simulated run.
+pub fn run(alloc: Global, given: Given) -> Result<Trace, Fail>
     requires { (1 ≤ given.workers) × (given.workers ≤ most_workers) }
 {
     let core = Core::new(alloc, given.system, given.order, given.bound, given.workers)?;
@@ -50,8 +51,8 @@ fn line_of(alloc: Global, trace: &Trace) -> Result<String, Fail> {
     Ok(line)
 }
 
-// The simulated run is that of the plain simulator, and this one.
-fn check_run(rt: &impl Abort, alloc: Global, given: Given, wanted: &str) -> Result<(), Fail>
+/// The simulated run is that of the plain simulator, and this one.
+pub fn check_run(rt: &impl Abort, alloc: Global, given: Given, wanted: &str) -> Result<(), Fail>
     requires { (1 ≤ given.workers) × (given.workers ≤ most_workers) }
 {
     let trace = compare(rt, alloc, given)?;
@@ -60,8 +61,8 @@ fn check_run(rt: &impl Abort, alloc: Global, given: Given, wanted: &str) -> Resu
     Ok(())
 }
 
-// A run along an order, which is the priority too.
-fn along<'a>(system: &'a System, order: &'a [u32], bound: u64, workers: u32) -> Given<'a>
+/// A run along an order, which is the priority too.
+pub fn along<'a>(system: &'a SharedSystem, order: &'a [u32], bound: u64, workers: u32) -> Given<'a>
     ensures { result.workers ≡ workers }
 {
     Given {
@@ -147,7 +148,12 @@ fn below(bound: u64, peak: u64) -> CoreRefusal {
 }
 
 // Why there is no core of two workers for an order and a bound.
-fn refusal_of(alloc: Global, system: &System, order: &[u32], bound: u64) -> Option<CoreRefusal> {
+fn refusal_of(
+    alloc: Global,
+    system: &SharedSystem,
+    order: &[u32],
+    bound: u64,
+) -> Option<CoreRefusal> {
     Core::new(alloc, system, order, bound, 2).err()
 }
 
@@ -217,11 +223,12 @@ fn refusals_are_told(rt: HostRuntime) -> Result<(), Fail> {
 
 // The tree along an order, in the least memory for it.
 fn tree_core(alloc: Global) -> Result<Core, Fail> {
-    Ok(Core::new(alloc, &tree(alloc)?, ORDER, 11, 1)?)
+    let tree = tree(alloc)?;
+    Ok(Core::new(alloc, &tree, ORDER, 11, 1)?)
 }
 
-// Used and booked memory, and how many tasks are activated.
-fn sums(core: &Core) -> (u64, u64, u32) {
+/// Used and booked memory, and how many tasks are activated.
+pub fn sums(core: &Core) -> (u64, u64, u32) {
     (core.used(), core.booked(), core.activated())
 }
 

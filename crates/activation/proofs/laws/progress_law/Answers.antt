@@ -5,17 +5,17 @@ use Rattle.activation.proofs.Progress.{safe_goes_on, safe_begins}
 use Rattle.activation.proofs.laws.progress_law.Goals as goal
 
 pub returns-clause-safe : goal.returns-clause-safe
-returns-clause-safe c = safe_goes_on c.congruence.ensures.state c.ready_law.ensures c.peak_law.ensures.bound
+returns-clause-safe c = safe_goes_on
 
 pub returns-clause-run : goal.returns-clause-run
 returns-clause-run c = λ s set events h.
-    safe_goes_on c.congruence.ensures.state c.ready_law.ensures c.peak_law.ensures.bound s set (state_after_all (start_state s) events)
+    safe_goes_on s set (state_after_all (start_state s) events)
     (run_safe c.event_law.ensures.kept s set (start_state s) (c.start_law.ensures.safe s set) events h)
 
 pub returns-clause-idle_safe : goal.returns-clause-idle_safe
-returns-clause-idle_safe c = safe_begins c.congruence.ensures.state c.ready_law.ensures c.peak_law.ensures.bound
+returns-clause-idle_safe c = safe_begins
 
 pub returns-clause-idle_run : goal.returns-clause-idle_run
 returns-clause-idle_run c = λ s set events h.
-    safe_begins c.congruence.ensures.state c.ready_law.ensures c.peak_law.ensures.bound s set (state_after_all (start_state s) events)
+    safe_begins s set (state_after_all (start_state s) events)
     (run_safe c.event_law.ensures.kept s set (start_state s) (c.start_law.ensures.safe s set) events h)

@@ -2,10 +2,10 @@ use Rattle.activation.proofs.Safety.{start_safe, start_booked, start_used}
 use Rattle.activation.proofs.laws.start_law.Goals as goal
 
 pub returns-clause-safe : goal.returns-clause-safe
-returns-clause-safe c = start_safe c.congruence.ensures.state c.peak_law.ensures.bound
+returns-clause-safe c = start_safe
 
 pub returns-clause-booked : goal.returns-clause-booked
-returns-clause-booked c = start_booked c.congruence.ensures.state
+returns-clause-booked c = start_booked
 
 pub returns-clause-used : goal.returns-clause-used
-returns-clause-used c = start_used c.congruence.ensures.state
+returns-clause-used c = start_used

@@ -1,7 +1,7 @@
 use Rattle.std.proofs.Common.{below_more, ◌≢◌, ◌-◌, get_or, refl, ◌∙◌, arith}
 use Rattle.std.proofs.lemmas.List.{length-set}
 use Rattle.std.proofs.lemmas.List.Elements.{All-get_or}
-use Rattle.mp_system.specs.System.{IsTask}
+use Rattle.shared_systems.specs.Shared.{HasTask}
 use Rattle.activation.proofs.Numbers.{number_set_same, number_set_other}
 use Rattle.activation.proofs.Lengths.{each_long}
 use Rattle.activation.proofs.Orders.{stands_once}
@@ -13,8 +13,8 @@ loop-i-preserved c =
     let i = c.loop-i.i in
     let order = c.args.order.now in
     let places = c.loop-i.places.items in
-    let is : IsTask c.args.system.now (get_or order i 0) =
-    All-get_or (IsTask c.args.system.now) order i 0 c.loop-i-test.true c.requires.within in
+    let is : HasTask c.args.system.now (get_or order i 0) =
+    All-get_or (HasTask c.args.system.now) order i 0 c.loop-i-test.true c.requires.within in
     record {
       long = length-set places (get_or order i 0 - 1) i ∙ c.loop-i.invariant.long;
       there = below_more _ i

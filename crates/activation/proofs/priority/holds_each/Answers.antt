@@ -1,7 +1,7 @@
 use Rattle.std.proofs.Common.{◌≡◌, ◌-◌, false, get_or, length, sym, ◌∙◌, arith, rules}
 use Rattle.std.proofs.lemmas.Bool.{true≢false, false≢true}
 use Rattle.std.proofs.lemmas.List.{get_or_read}
-use Rattle.mp_system.specs.System.{IsTask}
+use Rattle.shared_systems.specs.Shared.{HasTask}
 use Rattle.activation.proofs.Priorities.{one_marked, holds_a_task, holds_none_twice, each_held, all_found}
 use Rattle.activation.proofs.priority.holds_each.Goals as goal
 use Rattle.activation.proofs.priority.holds_each.Goals.{then-not-is_number-via-then-not-is_number}
@@ -27,7 +27,7 @@ pub loop-task-preserved : goal.loop-task-preserved
 loop-task-preserved c =
     let m = c.loop-task.invariant in
     let n = c.is_number.ensures.0 c.if-not-is_number.false in
-    let is : IsTask c.args.system.now (get_or c.args.priority.now c.loop-task.task-index 0) =
+    let is : HasTask c.args.system.now (get_or c.args.priority.now c.loop-task.task-index 0) =
     (n.0, omega (arith, n.1, m.long, c.len.ensures)) in
     let at = get_or_read c.loop-task.found.items (get_or c.args.priority.now c.loop-task.task-index 0 - 1) c.index.result.now
     (omega (arith, is.0, is.1, m.long)) c.index.ensures false in

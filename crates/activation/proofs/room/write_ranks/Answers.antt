@@ -14,7 +14,7 @@ bounds-priority-rank c =
       c.loop-rank-test.true,
       c.loop-rank.auto.priority,
       c.requires.priority_long,
-      c.traversal_law.ensures.long s.system s.order c.keeps.ensures.setting.traversal,
+      c.order_law.ensures.long s.system s.order c.keeps.ensures.setting.traversal,
       each_long s.system c.args.tasks.now c.requires.tasks,
     )
 
@@ -37,7 +37,7 @@ loop-rank-preserved c =
       c.loop-rank-test.true,
       c.loop-rank.auto.priority,
       c.requires.priority_long,
-      c.traversal_law.ensures.long s.system s.order c.keeps.ensures.setting.traversal,
+      c.order_law.ensures.long s.system s.order c.keeps.ensures.setting.traversal,
       each_long s.system tasks c.requires.tasks,
     ) in
     let within : place < length ranks = omega (arith, c.place_of-place.ensures.within, c.loop-rank.auto.ranks, c.requires.ranks_long) in
@@ -64,7 +64,7 @@ returns-clause-priority c =
       arith,
       c.loop-rank.auto.priority,
       c.requires.priority_long,
-      c.traversal_law.ensures.long s.system s.order c.keeps.ensures.setting.traversal,
+      c.order_law.ensures.long s.system s.order c.keeps.ensures.setting.traversal,
       each_long s.system c.args.tasks.now c.requires.tasks,
     ) in
     same_number_lists _ _ (length-map priority f ∙ long)

@@ -1,20 +1,17 @@
-use Rattle.std.proofs.Common.{arith, false, ap}
+use Rattle.std.proofs.Common.{◌<◌, length, arith, false, ap}
 use Rattle.std.specs.List.{sum_by}
-use Rattle.std.proofs.lemmas.List.Sums.{sum_by_more_le_part}
-use Rattle.mp_system.specs.System.{size_if, item_size}
-use Rattle.mp_system.specs.Memory.{is_present}
-use Rattle.activation.specs.Tables.{no_item}
-use Rattle.mp_system.proofs.Sums.{size_if-le}
+use Rattle.shared_systems.specs.Bounds.{shared_size}
+use Rattle.shared_systems.specs.SharedMemory.{is_held}
+use Rattle.shared_systems.proofs.KeySums.{part-fits}
 use Rattle.activation.proofs.start.start_memory.Goals as goal
 
 pub overflow_add-memory : goal.overflow_add-memory
 overflow_add-memory c =
-    let part = sum_by_more_le_part (size_if (is_present (λ _. false))) item_size c.items-item-items.result.now
-    c.loop-item.item-index no_item c.loop-item-test.true (size_if-le (is_present (λ _. false))) in
+    let items = c.items-items.result.now in
+    let lt : c.loop-i.i < length items = omega (arith, c.loop-i-test.true, c.len-i-end.ensures) in
     omega (
       arith,
-      part,
-      c.loop-item.invariant,
-      c.items-item-items.ensures.system.total,
-      ap (sum_by item_size) c.items-item-items.ensures.value,
+      part-fits (is_held (λ _. false)) items c.loop-i.i c.loop-i.memory c.size-memory.result lt c.loop-i.invariant c.size-memory.ensures,
+      c.items-items.ensures.system.total,
+      ap (sum_by shared_size) c.items-items.ensures.value,
     )

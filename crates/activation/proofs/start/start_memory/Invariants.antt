@@ -1,7 +1,7 @@
 use Rattle.std.proofs.Common.{◌≡◌, take, false}
-use Rattle.mp_system.specs.System.{size_where}
-use Rattle.mp_system.specs.Memory.{is_present}
+use Rattle.shared_systems.specs.Shared.{shared_size_where}
+use Rattle.shared_systems.specs.SharedMemory.{is_held}
 use Rattle.activation.proofs.start.start_memory.Given as goal
 
-abbrev pub invariant-loop-item : goal.invariant-loop-item
-invariant-loop-item l = l.memory ≡ size_where (is_present (λ _. false)) (take l.item-index l.item-items)
+abbrev pub invariant-loop-i : goal.invariant-loop-i
+invariant-loop-i l = l.memory ≡ shared_size_where (is_held (λ _. false)) (take l.i l.items)

@@ -1,6 +1,6 @@
 use Rattle.std.proofs.Common.{◌≡◌, ℕ, ◌+◌, ◌<◌, ◌∙◌, ap, arith, length, sym}
 use Rattle.std.proofs.lemmas.List.{get_or_read}
-use Rattle.mp_system.specs.System.{inputs_of, outputs_of, need_of}
+use Rattle.shared_systems.specs.Shared.{own_inputs_of, shared_outputs_of, shared_need_of}
 use Rattle.activation.proofs.Numbers.{number_next}
 use Rattle.activation.proofs.Sizes.{task_facts, of_task}
 use Rattle.activation.proofs.sums.needs_by_task.Goals as goal
@@ -21,7 +21,7 @@ overflow_add-tasks c =
     let f = task_facts c.args.system.now c.tasks-tasks.ensures.system c.tasks-tasks.result.now c.tasks-tasks.ensures.value i
     (record { extra = 0; share = 0; time = 0 }) c.loop-i-test.true in
     let w : i < length c.loop-i.needs.items = omega (arith, c.loop-i.invariant.needs_len, ap length c.tasks-tasks.ensures.value) in
-    let read : c.index.result.now ≡ outputs_of c.args.system.now (i + 1) =
+    let read : c.index.result.now ≡ shared_outputs_of c.args.system.now (i + 1) =
     get_or_read c.loop-i.needs.items i c.index.result.now w c.index.ensures 0 ∙ c.loop-i.invariant.outputs i (omega arith) in
     omega (arith, read, f.extra, f.few_outputs)
 
@@ -31,7 +31,7 @@ overflow_sub-tasks c =
     let f = task_facts c.args.system.now c.tasks-tasks.ensures.system c.tasks-tasks.result.now c.tasks-tasks.ensures.value i
     (record { extra = 0; share = 0; time = 0 }) c.loop-i-test.true in
     let w : i < length c.loop-i.needs.items = omega (arith, c.loop-i.invariant.needs_len, ap length c.tasks-tasks.ensures.value) in
-    let read : c.index.result.now ≡ outputs_of c.args.system.now (i + 1) =
+    let read : c.index.result.now ≡ shared_outputs_of c.args.system.now (i + 1) =
     get_or_read c.loop-i.needs.items i c.index.result.now w c.index.ensures 0 ∙ c.loop-i.invariant.outputs i (omega arith) in
     omega (arith, read, f.whole)
 
@@ -41,7 +41,7 @@ overflow_add-tasks-in-loop-i c =
     let f = task_facts c.args.system.now c.tasks-tasks.ensures.system c.tasks-tasks.result.now c.tasks-tasks.ensures.value i
     (record { extra = 0; share = 0; time = 0 }) c.loop-i-test.true in
     let w : i < length c.loop-i.frees.items = omega (arith, c.loop-i.invariant.frees_len, ap length c.tasks-tasks.ensures.value) in
-    let read : c.index-in-loop-i.result.now ≡ inputs_of c.args.system.now (i + 1) =
+    let read : c.index-in-loop-i.result.now ≡ own_inputs_of c.args.system.now (i + 1) =
     get_or_read c.loop-i.frees.items i c.index-in-loop-i.result.now w c.index-in-loop-i.ensures 0
     ∙ c.loop-i.invariant.inputs i (omega arith) in
     omega (arith, read, f.extra, f.few_inputs)
@@ -52,18 +52,18 @@ overflow_sub-tasks-in-loop-i c =
     let f = task_facts c.args.system.now c.tasks-tasks.ensures.system c.tasks-tasks.result.now c.tasks-tasks.ensures.value i
     (record { extra = 0; share = 0; time = 0 }) c.loop-i-test.true in
     let w : i < length c.loop-i.frees.items = omega (arith, c.loop-i.invariant.frees_len, ap length c.tasks-tasks.ensures.value) in
-    let read : c.index-in-loop-i.result.now ≡ inputs_of c.args.system.now (i + 1) =
+    let read : c.index-in-loop-i.result.now ≡ own_inputs_of c.args.system.now (i + 1) =
     get_or_read c.loop-i.frees.items i c.index-in-loop-i.result.now w c.index-in-loop-i.ensures 0
     ∙ c.loop-i.invariant.inputs i (omega arith) in
     omega (arith, read, f.inputs)
 
 pub returns-clause-needs : goal.returns-clause-needs
 returns-clause-needs c = λ t is.
-    of_task (λ (x u : ℕ). x ≡ need_of c.args.system.now u) c.loop-i.needs.items (length c.args.system.now.tasks)
+    of_task (λ (x u : ℕ). x ≡ shared_need_of c.args.system.now u) c.loop-i.needs.items (length c.args.system.now.tasks)
     (λ k w. c.loop-i.invariant.needs k (omega (arith, ap length c.tasks-tasks.ensures.value))) t is.0 is.1
 
 pub returns-clause-frees : goal.returns-clause-frees
 returns-clause-frees c = λ t is.
-    of_task (λ (x u : ℕ). x + outputs_of c.args.system.now u ≡ need_of c.args.system.now u + inputs_of c.args.system.now u)
+    of_task (λ (x u : ℕ). x + shared_outputs_of c.args.system.now u ≡ shared_need_of c.args.system.now u + own_inputs_of c.args.system.now u)
     c.loop-i.frees.items (length c.args.system.now.tasks)
     (λ k w. c.loop-i.invariant.frees k (omega (arith, ap length c.tasks-tasks.ensures.value))) t is.0 is.1

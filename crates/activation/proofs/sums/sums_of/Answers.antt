@@ -1,11 +1,12 @@
-use Rattle.std.proofs.Common.{◌≡◌, ◌∙◌, ap, arith, length, rules}
+use Rattle.std.proofs.Common.{◌≡◌, ◌<◌, ◌∙◌, ap, arith, length, rules}
 use Rattle.std.specs.Prelude.{replicate}
 use Rattle.std.specs.List.{sum_by}
 use Rattle.std.proofs.lemmas.List.{length-replicate}
-use Rattle.mp_system.specs.System.{is_input, is_output, item_size}
-use Rattle.activation.specs.Tables.{no_item}
+use Rattle.shared_systems.specs.Shared.{is_read_by_alone, is_made_by}
+use Rattle.shared_systems.specs.Bounds.{shared_size}
+use Rattle.shared_systems.proofs.KeySums.{part-fits}
 use Rattle.activation.proofs.Numbers.{number_replicate}
-use Rattle.activation.proofs.Sizes.{size_fits, consumer_is_task, producer_is_task}
+use Rattle.activation.proofs.Sizes.{only_reader_is_task, producer_is_task}
 use Rattle.activation.proofs.sums.sums_of.Goals as goal
 
 pub loop-i-init : goal.loop-i-init
@@ -23,21 +24,25 @@ loop-i-init c =
 pub add_size-requires : goal.add_size-requires
 add_size-requires c = λ t is.
     let items = c.items-items.result.now in
-    let r = consumer_is_task c.args.system.now c.items-items.ensures.system items
-    c.items-items.ensures.value c.loop-i.i no_item c.loop-i-test.true t is in
-    let fits = size_fits (is_input t) items c.loop-i.i no_item c.loop-i-test.true is in
+    let i = c.loop-i.i in
+    let lt : i < length items = omega (arith, c.loop-i-test.true, c.len-i-end.ensures) in
+    let r = only_reader_is_task c.args.system.now c.items-items.ensures.system items c.items-items.ensures.value i lt t
+    (rw (c.only_of.ensures, c.readers.ensures) at is) in
+    let fits = part-fits (is_read_by_alone t) items i _ c.size.result lt (c.loop-i.invariant.inputs t) c.size.ensures in
     let total = c.items-items.ensures.system.total in
-    let same = ap (sum_by item_size) c.items-items.ensures.value in
+    let same = ap (sum_by shared_size) c.items-items.ensures.value in
     rw c.deref_mut.ensures.value
-    ((r.0, omega (arith, r.1, c.loop-i.invariant.inputs_len)), omega (arith, fits, total, same, c.loop-i.invariant.inputs t))
+    ((r.0, omega (arith, r.1, c.loop-i.invariant.inputs_len)), omega (arith, fits, total, same))
 
 pub add_size-requires-in-loop-i : goal.add_size-requires-in-loop-i
 add_size-requires-in-loop-i c = λ t is.
     let items = c.items-items.result.now in
-    let r = producer_is_task c.args.system.now c.items-items.ensures.system items
-    c.items-items.ensures.value c.loop-i.i no_item c.loop-i-test.true t is in
-    let fits = size_fits (is_output t) items c.loop-i.i no_item c.loop-i-test.true is in
+    let i = c.loop-i.i in
+    let lt : i < length items = omega (arith, c.loop-i-test.true, c.len-i-end.ensures) in
+    let r = producer_is_task c.args.system.now c.items-items.ensures.system items c.items-items.ensures.value i lt t
+    (rw c.producer.ensures at is) in
+    let fits = part-fits (is_made_by t) items i _ c.size-in-loop-i.result lt (c.loop-i.invariant.outputs t) c.size-in-loop-i.ensures in
     let total = c.items-items.ensures.system.total in
-    let same = ap (sum_by item_size) c.items-items.ensures.value in
+    let same = ap (sum_by shared_size) c.items-items.ensures.value in
     rw c.deref_mut-in-loop-i.ensures.value
-    ((r.0, omega (arith, r.1, c.loop-i.invariant.outputs_len)), omega (arith, fits, total, same, c.loop-i.invariant.outputs t))
+    ((r.0, omega (arith, r.1, c.loop-i.invariant.outputs_len)), omega (arith, fits, total, same))

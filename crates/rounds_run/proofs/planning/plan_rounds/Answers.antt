@@ -2,6 +2,7 @@ use Rattle.std.proofs.Common.{◌≤◌, ◌*◌, [], length, ap, sym, subst, �
 use Rattle.std.proofs.lemmas.List.{get_or_default}
 use Rattle.limits.specs.Limits.{most_order}
 use Rattle.mp_system.specs.Traversal.{IsTraversal}
+use Rattle.shared_systems.proofs.SameSystems.{peak_same}
 use Rattle.activation.specs.Machine.{IsSetting, start_state}
 use Rattle.rounds_run.specs.RowSystem.{row_system, row_order, row_setting}
 use Rattle.rounds_run.specs.Rounds.{AreRounds}
@@ -80,3 +81,9 @@ returns-clause-within c =
     let setting = row_setting c.args.assembly.now.supers c.args.bound c.args.workers in
     let most = most_within setting are.events (start_state setting) are.stays_within in
     omega (arith, most, are.used_is)
+
+pub returns-clause-fits : goal.returns-clause-fits
+returns-clause-fits c =
+    let setting = row_setting c.args.assembly.now.supers c.args.bound c.args.workers in
+    let is : IsSetting setting = subst IsSetting c.in_ok-core.ensures.setting c.in_ok-core.ensures.within in
+    omega (arith, is.bound, peak_same (row_system c.args.assembly.now.supers) (row_order c.args.assembly.now.supers))

@@ -1,4 +1,4 @@
-use Rattle.std.proofs.Common.{true, false, get_or, take, ap, sym, subst, ◌∙◌}
+use Rattle.std.proofs.Common.{get_or, take, ap, sym, subst, ◌∙◌}
 use Rattle.std.proofs.lemmas.List.{take_more}
 use Rattle.activation.specs.declared.events.EventKind.TheVariants.{Activate}
 use Rattle.activation.specs.declared.events.Event.{Event}

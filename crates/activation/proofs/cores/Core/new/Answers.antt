@@ -2,13 +2,13 @@ use Rattle.std.proofs.Common.{ℕ, List}
 use Rattle.std.proofs.lemmas.Result.{err_from_is_err_and}
 use Rattle.mp_system.specs.declared.order.ReplayRefusal.{ReplayRefusal}
 use Rattle.mp_system.specs.declared.order.ReplayRefusal.TheVariants.{Order, NoMemory}
-use Rattle.mp_system.specs.System.{TaskSystem}
-use Rattle.mp_system.specs.Refusal.{IsOrderRefusal}
+use Rattle.shared_systems.specs.Shared.{SharedTaskSystem}
+use Rattle.shared_systems.specs.SharedTraversal.{IsSharedOrderRefusal}
 use Rattle.activation.specs.Refusal.{IsCoreRefusal, same_refusal}
 use Rattle.activation.proofs.cores.Core.new.Goals as goal
 
-order_refused : (system : TaskSystem) (order : List ℕ) (bound : ℕ) (r : ReplayRefusal)
-    → IsOrderRefusal system order r → IsCoreRefusal system order bound (same_refusal r)
+order_refused : (system : SharedTaskSystem) (order : List ℕ) (bound : ℕ) (r : ReplayRefusal)
+    → IsSharedOrderRefusal system order r → IsCoreRefusal system order bound (same_refusal r)
 order_refused system order bound (Order fault) h = h
 order_refused system order bound NoMemory h = tt
 

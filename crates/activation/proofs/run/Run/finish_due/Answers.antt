@@ -8,7 +8,7 @@ pub returns-in_err-first-clause-none : goal.returns-in_err-first-clause-none
 returns-in_err-first-clause-none c =
     let k = c.keeps.ensures in
     rw (← c.self.view_is, c.from_residual.ensures)
-    (λ u run. absurd (none_runs c.traversal_law.ensures.long k.setting k.safe c.self.invariant c.in_err-first.ensures.none u run))
+    (λ u run. absurd (none_runs c.order_law.ensures.long k.setting k.safe c.self.invariant c.in_err-first.ensures.none u run))
 
 pub returns-then-branch-self-clause-none : goal.returns-then-branch-self-clause-none
 returns-then-branch-self-clause-none c =
@@ -18,7 +18,7 @@ returns-then-branch-self-clause-none c =
     omega (
       arith,
       c.if-branch-self.true,
-      none_before c.traversal_law.ensures.long k.setting k.safe c.self.invariant c.in_ok-first.field-0 first.among first.first u run,
+      none_before c.order_law.ensures.long k.setting k.safe c.self.invariant c.in_ok-first.field-0 first.among first.first u run,
     ))
 
 pub returns-clause-comes : goal.returns-clause-comes
@@ -30,5 +30,5 @@ returns-clause-comes c =
     rw (← c.self.view_is)
     (finish_comes f.core.setting (map (slice_index f.core.setting.order) f.room.priority.items) moment c.finish_next.result
     (rw (← c.self.view_is) at c.finish_next.ensures.due) (rw (← c.self.view_is) at c.finish_next.ensures.event)
-    (due_now c.traversal_law.ensures.long k.setting k.safe c.self.invariant c.in_ok-first.field-0 first.among first.first
+    (due_now c.order_law.ensures.long k.setting k.safe c.self.invariant c.in_ok-first.field-0 first.among first.first
     (omega (arith, c.if-branch-self.false))))

@@ -15,7 +15,7 @@ pub returns-in_err-next-clause-none : goal.returns-in_err-next-clause-none
 returns-in_err-next-clause-none c =
     let k = c.keeps.ensures in
     rw (← c.self.view_is, c.from_residual.ensures)
-    (none_runs c.traversal_law.ensures.long k.setting k.safe c.self.invariant c.in_err-next.ensures.none)
+    (none_runs c.order_law.ensures.long k.setting k.safe c.self.invariant c.in_err-next.ensures.none)
 
 pub task_at-task-requires : goal.task_at-task-requires
 task_at-task-requires c =
@@ -23,7 +23,7 @@ task_at-task-requires c =
     let k = c.keeps.ensures in
     let next = c.in_ok-next.next in
     let among = taken_among f.room.clock.dues c.take_first.new.self.dues next c.in_ok-next.ensures.dues in
-    due_within c.traversal_law.ensures.long k.setting k.safe c.self.invariant next among c.in_ok-next.ensures.first
+    due_within c.order_law.ensures.long k.setting k.safe c.self.invariant next among c.in_ok-next.ensures.first
 
 pub refresh_consumers-requires-clause-place : goal.refresh_consumers-requires-clause-place
 refresh_consumers-requires-clause-place c =
@@ -32,7 +32,7 @@ refresh_consumers-requires-clause-place c =
     let next = c.in_ok-next.next in
     let among = taken_among f.room.clock.dues c.take_first.new.self.dues next c.in_ok-next.ensures.dues in
     rw c.finish_at.ensures.setting
-    (due_within c.traversal_law.ensures.long k.setting k.safe c.self.invariant next among c.in_ok-next.ensures.first)
+    (due_within c.order_law.ensures.long k.setting k.safe c.self.invariant next among c.in_ok-next.ensures.first)
 
 pub finish_at-requires : goal.finish_at-requires
 finish_at-requires c =
@@ -40,7 +40,7 @@ finish_at-requires c =
     let k = c.keeps.ensures in
     let next = c.in_ok-next.next in
     let among = taken_among f.room.clock.dues c.take_first.new.self.dues next c.in_ok-next.ensures.dues in
-    due_within c.traversal_law.ensures.long k.setting k.safe c.self.invariant next among c.in_ok-next.ensures.first
+    due_within c.order_law.ensures.long k.setting k.safe c.self.invariant next among c.in_ok-next.ensures.first
 
 pub invariant_of-self : goal.invariant_of-self
 invariant_of-self c = rw c.in_err-next.ensures.unchanged c.self.invariant
@@ -49,7 +49,7 @@ pub invariant_of-self-2 : goal.invariant_of-self-2
 invariant_of-self-2 c =
     let f = c.self.inside in
     let k = c.keeps.ensures in
-    let long = c.traversal_law.ensures.long in
+    let long = c.order_law.ensures.long in
     let next = c.in_ok-next.next in
     let task = slice_index f.core.setting.order next.place in
     let among = taken_among f.room.clock.dues c.take_first.new.self.dues next c.in_ok-next.ensures.dues in
@@ -72,7 +72,7 @@ pub returns-clause-due : goal.returns-clause-due
 returns-clause-due c =
     let f = c.self.inside in
     let k = c.keeps.ensures in
-    let long = c.traversal_law.ensures.long in
+    let long = c.order_law.ensures.long in
     let next = c.in_ok-next.next in
     let task = slice_index f.core.setting.order next.place in
     let among = taken_among f.room.clock.dues c.take_first.new.self.dues next c.in_ok-next.ensures.dues in
@@ -84,7 +84,7 @@ pub returns-clause-event : goal.returns-clause-event
 returns-clause-event c =
     let f = c.self.inside in
     let k = c.keeps.ensures in
-    let long = c.traversal_law.ensures.long in
+    let long = c.order_law.ensures.long in
     let next = c.in_ok-next.next in
     let task = c.task_at-task.result in
     let among = taken_among f.room.clock.dues c.take_first.new.self.dues next c.in_ok-next.ensures.dues in
@@ -98,7 +98,7 @@ pub returns-clause-next : goal.returns-clause-next
 returns-clause-next c =
     let f = c.self.inside in
     let k = c.keeps.ensures in
-    let long = c.traversal_law.ensures.long in
+    let long = c.order_law.ensures.long in
     let next = c.in_ok-next.next in
     let task = slice_index f.core.setting.order next.place in
     let among = taken_among f.room.clock.dues c.take_first.new.self.dues next c.in_ok-next.ensures.dues in

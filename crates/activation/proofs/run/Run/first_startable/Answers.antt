@@ -12,7 +12,7 @@ returns-clause-within c =
     let first = c.in_ok-rank.ensures.some in
     let read : c.index.result.now ≡ get_or f.room.priority.items rank 0 = get_or_read f.room.priority.items rank c.index.result.now
     (omega (arith, first.within, i.ready_long, i.ranked.long)) c.index.ensures 0 in
-    rw (← c.self.view_is, read) (first_is_startable c.traversal_law.ensures.long k.setting k.safe i rank first).0
+    rw (← c.self.view_is, read) (first_is_startable c.order_law.ensures.long k.setting k.safe i rank first).0
 
 pub returns-clause-some : goal.returns-clause-some
 returns-clause-some c =
@@ -23,10 +23,10 @@ returns-clause-some c =
     let first = c.in_ok-rank.ensures.some in
     let read : c.index.result.now ≡ get_or f.room.priority.items rank 0 = get_or_read f.room.priority.items rank c.index.result.now
     (omega (arith, first.within, i.ready_long, i.ranked.long)) c.index.ensures 0 in
-    rw (← c.self.view_is, read) (first_is_startable c.traversal_law.ensures.long k.setting k.safe i rank first).1
+    rw (← c.self.view_is, read) (first_is_startable c.order_law.ensures.long k.setting k.safe i rank first).1
 
 pub returns-in_err-rank-clause-none : goal.returns-in_err-rank-clause-none
 returns-in_err-rank-clause-none c =
     let k = c.keeps.ensures in
     rw (← c.self.view_is, c.from_residual.ensures)
-    (none_startable c.traversal_law.ensures.long k.setting k.safe c.self.invariant c.in_err-rank.ensures.none)
+    (none_startable c.order_law.ensures.long k.setting k.safe c.self.invariant c.in_err-rank.ensures.none)

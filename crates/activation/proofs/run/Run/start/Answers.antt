@@ -1,7 +1,7 @@
 use Rattle.std.proofs.Common.{◌≡◌, ℕ, ◌+◌, ◌<◌, false, length, map, sym, refl, ◌∙◌, arith}
 use Rattle.std.specs.Prelude.{slice_index}
 use Rattle.std.proofs.lemmas.Bool.{OnTrue_at, true≢false}
-use Rattle.mp_system.specs.System.{IsTask}
+use Rattle.shared_systems.specs.Shared.{HasTask}
 use Rattle.activation.specs.Schedule.{Moment, NoneDue, NoneActivates}
 use Rattle.activation.specs.Tables.{is_startable}
 use Rattle.activation.specs.Run.{IsFirstStartable}
@@ -16,14 +16,14 @@ use Rattle.activation.proofs.run.Run.start.Goals as goal
 pub overflow_add-time : goal.overflow_add-time
 overflow_add-time c =
     let k = c.keeps.ensures in
-    let count = count_le c.traversal_law.ensures.long c.self.inside.core.setting k.setting c.self.inside.core.state k.safe in
+    let count = count_le c.order_law.ensures.long c.self.inside.core.setting k.setting c.self.inside.core.state k.safe in
     omega (arith, c.self.invariant.time_small, count, k.setting.system.few_tasks, c.time_at.ensures.long)
 
 pub returns-in_err-place-clause-none : goal.returns-in_err-place-clause-none
 returns-in_err-place-clause-none c =
     let f = c.self.inside in
     let k = c.keeps.ensures in
-    let none : (u : ℕ) → IsTask f.core.setting.system u → is_startable f.core.setting f.core.state u ≡ false =
+    let none : (u : ℕ) → HasTask f.core.setting.system u → is_startable f.core.setting f.core.state u ≡ false =
     rw (← c.self.view_is) at c.in_err-place.ensures.none in
     rw (← c.self.view_is, c.from_residual.ensures) (λ u h.
     absurd (true≢false

@@ -1,7 +1,0 @@
-use Rattle.std.proofs.Common.{◌≡◌, take}
-use Rattle.shared_activation.specs.Schedule.{task_entry}
-use Rattle.shared_activation.specs.Consumers.{consumer_edges}
-use Rattle.shared_activation.proofs.consumers.edges_of.Given as goal
-
-abbrev pub invariant-loop-i : goal.invariant-loop-i
-invariant-loop-i l = l.edges.items ≡ consumer_edges (task_entry l.places) (take l.i l.items)

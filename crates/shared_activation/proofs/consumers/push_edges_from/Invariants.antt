@@ -1,8 +1,0 @@
-use Rattle.std.proofs.Common.{◌≡◌, ◌++◌, map, take}
-use Rattle.shared_activation.specs.Schedule.{task_entry}
-use Rattle.shared_activation.specs.Consumers.{edge}
-use Rattle.shared_activation.proofs.consumers.push_edges_from.Given as goal
-
-abbrev pub invariant-loop-reader : goal.invariant-loop-reader
-invariant-loop-reader l =
-    l.edges.items ≡ l.initial.edges.items ++ map (λ c. edge l.from (task_entry l.places c)) (take l.reader-index l.readers)

@@ -1,9 +1,0 @@
-use Rattle.shared_activation.proofs.Changes.{event_change}
-use Rattle.shared_activation.proofs.Safety.{happen_safe}
-use Rattle.shared_activation.proofs.laws.event_law.Goals as goal
-
-pub returns-clause-kept : goal.returns-clause-kept
-returns-clause-kept c = happen_safe
-
-pub returns-clause-change : goal.returns-clause-change
-returns-clause-change c = event_change

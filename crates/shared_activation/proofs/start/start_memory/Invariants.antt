@@ -1,7 +1,0 @@
-use Rattle.std.proofs.Common.{◌≡◌, take, false}
-use Rattle.shared_systems.specs.Shared.{shared_size_where}
-use Rattle.shared_systems.specs.SharedMemory.{is_held}
-use Rattle.shared_activation.proofs.start.start_memory.Given as goal
-
-abbrev pub invariant-loop-i : goal.invariant-loop-i
-invariant-loop-i l = l.memory ≡ shared_size_where (is_held (λ _. false)) (take l.i l.items)

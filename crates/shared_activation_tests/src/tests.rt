@@ -1,4 +1,0 @@
-mod plain;
-mod random;
-mod rows;
-mod systems;
