@@ -16,23 +16,24 @@ use Rattle.mp_system.specs.Memory.{stands_in, is_done_or}
 use Rattle.mp_system.specs.Traversal.{IsTraversal}
 use Rattle.spill_plan.specs.declared.span.Span.{Span}
 use Rattle.spill_plan.specs.SpillPlans.{is_held, own_need, sum_from, kept_across, IsSpillPlan, most_among, plan_volume}
-use Rattle.spill_plan.specs.Spans.{step_of, IsStepTable, IsInTable, start_of_item, end_of_item, span_of, no_span}
+use Rattle.spill_plan.specs.Steps.{step_of}
+use Rattle.spill_plan.specs.Spans.{IsStepTable, IsInTable, start_of_item, end_of_item, span_of, no_span}
 use Rattle.spill_plan.specs.Spans.{AreItemSpans, is_across, start_sum, end_sum, kept_at, IsSpanPlan, span_volume}
-use Rattle.spill_plan.proofs.OrderSteps.{stands-take, task_step, step_of_task, produced_before}
+use Rattle.spill_plan.proofs.OrderSteps.{stands-take, each_once, task_step, step_of_task, produced_before}
 
-lt-le : (m n : ℕ) → nat_lt m n ≡ nat_le (suc m) n
+pub lt-le : (m n : ℕ) → nat_lt m n ≡ nat_le (suc m) n
 lt-le m n = grind arith
 
 not-lt : (m n : ℕ) → not (nat_lt m (suc n)) ≡ nat_lt n m
 not-lt m n = grind arith
 
-lt-true : (m n : ℕ) → m < n → true ≡ nat_lt m n
+pub lt-true : (m n : ℕ) → m < n → true ≡ nat_lt m n
 lt-true m n h = grind arith
 
 le-zero : (n : ℕ) → true ≡ nat_le 0 n
 le-zero n = grind arith
 
-from-same : (order : List ℕ) (k : ℕ) (o : Option ℕ) → k < length order → is_done_or true (stands_in (take k order)) o
+pub from-same : (order : List ℕ) (k : ℕ) (o : Option ℕ) → k < length order → is_done_or true (stands_in (take k order)) o
     ≡ nat_le (start_of_item order o) k
 from-same order k None h = le-zero k
 from-same order k (Some u) h = stands-take order u k (omega arith) ∙ lt-le (step_of order u) k
@@ -45,8 +46,8 @@ to-same order k (Some w) h = ap not (stands-take order w (suc k) (omega arith)) 
 pub held-across : (order : List ℕ) (k : ℕ) (item : Item) → k < length order → is_held order k item ≡ is_across k (span_of order item)
 held-across order k item h = λ i. from-same order k item.from h i && to-same order k item.to h i
 
-pub sum_from-map : (f : ℕ → Item → ℕ) (g : ℕ → Span → ℕ) (to : Item → Span) → ((i : ℕ) (x : Item) → f i x ≡ g i (to x))
-    → (base : ℕ) (items : List Item) → sum_from base f items ≡ sum_from base g (map to items)
+pub sum_from-map : {X : Type 0} (f : ℕ → X → ℕ) (g : ℕ → Span → ℕ) (to : X → Span) → ((i : ℕ) (x : X) → f i x ≡ g i (to x))
+    → (base : ℕ) (items : List X) → sum_from base f items ≡ sum_from base g (map to items)
 sum_from-map f g to each base [] = refl
 sum_from-map f g to each base (x ∷ items) = omega (arith, each base x, sum_from-map f g to each (suc base) items)
 
@@ -68,12 +69,12 @@ module _ (system : TaskSystem) (order : List ℕ) where
 
   pub kept-same : (k : ℕ) (amount : ℕ → ℕ) → k < length order → kept_across system order k amount ≡ kept_at k amount spans
   kept-same k amount h =
-      sum_from-map (λ i x. cond (is_held order k x) (x.size - amount i) 0) (λ i x. cond (is_across k x) (x.size - amount i) 0)
+      sum_from-map (λ i (x : Item). cond (is_held order k x) (x.size - amount i) 0) (λ i x. cond (is_across k x) (x.size - amount i) 0)
       (span_of order)
       (λ i x. ap (λ b. cond b (x.size - amount i) 0) (held-across order k x h)) 0 system.items
 
   pub volume-same : (plan : ℕ → ℕ → ℕ) → plan_volume system order plan ≡ span_volume (length order) plan spans
-  volume-same plan = sum_from-map (λ i x. most_among (length order) (λ k. plan k i)) (λ i x. most_among (length order) (λ k. plan k i))
+  volume-same plan = sum_from-map (λ i (x : Item). most_among (length order) (λ k. plan k i)) (λ i x. most_among (length order) (λ k. plan k i))
       (span_of order) (λ i x. refl) 0 system.items
 
   pub to_spans : (bound : ℕ) (plan : ℕ → ℕ → ℕ) → IsSpillPlan system order bound plan
@@ -115,6 +116,12 @@ sum_by-map f g to (x ∷ items) each =
     )
 
 module _ (system : TaskSystem) (order : List ℕ) (within : IsSystem system) (traversal : IsTraversal system order) where
+  placed : (v : ℕ) → IsTask system v → (step_of order v < length order) × (get_or order (step_of order v) 0 ≡ v)
+  placed v task = task_step (length system.tasks) order (each_once system order traversal) v task
+
+  placed_only : (v k : ℕ) → IsTask system v → k < length order → get_or order k 0 ≡ v → step_of order v ≡ k
+  placed_only v k task h e = step_of_task (length system.tasks) order (each_once system order traversal) v k task h e
+
   pub producer : (i : ℕ) (d : Item) → i < length system.items → ForSome (get_or system.items i d).from (IsTask system)
   producer i d h = (All-get_or (IsItemWithin system) system.items i d h within.items).producer
 
@@ -126,10 +133,10 @@ module _ (system : TaskSystem) (order : List ℕ) (within : IsSystem system) (tr
       ≡ is_named o (get_or order k 0)
   ends_at_step k None h task = ne_eqb (length order) k (λ e. omega arith)
   ends_at_step k (Some w) h task = elim (cases_eq w (get_or order k 0)) [
-    | inl same ↦ eq-eqb (step_of order w) k (step_of_task system order traversal w k (task w refl) h (sym same))
+    | inl same ↦ eq-eqb (step_of order w) k (placed_only w k (task w refl) h (sym same))
         ∙ sym (eq-eqb w (get_or order k 0) same)
     | inr other ↦ ne_eqb (step_of order w) k
-        (λ e. other (sym (task_step system order traversal w (task w refl)).1 ∙ ap (λ j. get_or order j 0) e))
+        (λ e. other (sym (placed w (task w refl)).1 ∙ ap (λ j. get_or order j 0) e))
         ∙ sym (ne_eqb w (get_or order k 0) other)
   ]
 
@@ -139,10 +146,10 @@ module _ (system : TaskSystem) (order : List ℕ) (within : IsSystem system) (tr
   starts_after_step k None h task = ne_eqb 0 (k + 1) (λ e. omega arith)
   starts_after_step k (Some u) h task = elim (cases_eq u (get_or order k 0)) [
     | inl same ↦ eq-eqb (suc (step_of order u)) (k + 1)
-        (omega (arith, step_of_task system order traversal u k (task u refl) h (sym same))) ∙ sym (eq-eqb u (get_or order k 0) same)
+        (omega (arith, placed_only u k (task u refl) h (sym same))) ∙ sym (eq-eqb u (get_or order k 0) same)
     | inr other ↦ ne_eqb (suc (step_of order u)) (k + 1)
         (λ e. let same : step_of order u ≡ k = omega arith in other
-        (sym (task_step system order traversal u (task u refl)).1 ∙ ap (λ j. get_or order j 0) same))
+        (sym (placed u (task u refl)).1 ∙ ap (λ j. get_or order j 0) same))
         ∙ sym (ne_eqb u (get_or order k 0) other)
   ]
 
@@ -157,11 +164,11 @@ module _ (system : TaskSystem) (order : List ℕ) (within : IsSystem system) (tr
       (λ i d l. ap (λ b. cond b (get_or system.items i d).size 0) (starts_after_step k (get_or system.items i d).from h (producer i d l)))
 
   -- an item's span by the table of steps
-  module _ (steps : List ℕ) (are : IsStepTable system order steps) where
+  module _ (steps : List ℕ) (are : IsStepTable (length system.tasks) order steps) where
     pub in_table : (o : Option ℕ) → ForSome o (IsTask system) → ForSome o (IsInTable steps)
     in_table o tasks task is =
         let t = tasks task is in
-        (t.0, omega (arith, t.1, are.len), omega (arith, are.each task t, (task_step system order traversal task t).0, are.few))
+        (t.0, omega (arith, t.1, are.len), omega (arith, are.each task t, (placed task t).0, are.few))
 
     pub start_read : (o : Option ℕ) → ForSome o (IsTask system) → option_map_or (λ task. get_or steps (task - 1) 0 + 1) o 0
         ≡ start_of_item order o
@@ -175,11 +182,11 @@ module _ (system : TaskSystem) (order : List ℕ) (within : IsSystem system) (tr
 
   pub end_within : (o : Option ℕ) → ForSome o (IsTask system) → end_of_item order o ≤ length order
   end_within None task = omega arith
-  end_within (Some w) task = omega (arith, (task_step system order traversal w (task w refl)).0)
+  end_within (Some w) task = omega (arith, (placed w (task w refl)).0)
 
   pub start_within : (o : Option ℕ) → ForSome o (IsTask system) → start_of_item order o ≤ length order
   start_within None task = omega arith
-  start_within (Some u) task = omega (arith, (task_step system order traversal u (task u refl)).0)
+  start_within (Some u) task = omega (arith, (placed u (task u refl)).0)
 
   rises : (i : ℕ) (d : Item) → i < length system.items → start_of_item order (get_or system.items i d).from
       ≤ end_of_item order (get_or system.items i d).to

@@ -4,7 +4,7 @@ use Rattle.std.proofs.Common.{subst, ap, arith, ◌∙◌, List, [], ◌∷◌, 
 use Rattle.std.specs.Prelude.{sum, slice_index}
 use Rattle.std.proofs.lemmas.Bool.{true≢false}
 use Rattle.std.proofs.lemmas.List.Sums.{sum_by-cons}
-use Rattle.limits.specs.Limits.{most_tasks, most_total}
+use Rattle.limits.specs.Limits.{most_tasks}
 use Rattle.mp_system.specs.declared.system.Item.{Item}
 use Rattle.mp_system.specs.System.{TaskSystem, IsSystem}
 use Rattle.mp_system.specs.Traversal.{IsTraversal}
@@ -15,14 +15,15 @@ use Rattle.spill_plan.specs.declared.refusal.SpillRefusal.{SpillRefusal}
 use Rattle.spill_plan.specs.declared.refusal.SpillRefusal.TheVariants.{Order, WorkingSet, NoMemory}
 use Rattle.spill_plan.specs.Refusal.{IsSpillRefusal}
 use Rattle.spill_plan.specs.Spilled.{IsOverNeed}
-use Rattle.spill_plan.specs.Spans.{span_of, no_span, span_at, AreItemSpans, is_across, IsSpanPlan, span_plan, IsSpilledAfter}
+use Rattle.spill_plan.specs.Spans.{most_span_total, span_of, no_span, span_at, AreItemSpans, is_across}
+use Rattle.spill_plan.specs.Spans.{IsSpanPlan, span_plan, IsSpilledAfter}
 use Rattle.spill_plan.proofs.SpanSums.{split, across-yes, sum-le-all, sum-same-all, sum_from-sum_by}
 use Rattle.spill_plan.proofs.Leads.{most_among-within}
 use Rattle.spill_plan.proofs.Running.{run_plan, run_least}
 use Rattle.spill_plan.proofs.ItemSpans.{held-across, get-map, spans-length, volume-same, to_spans, from_spans, item_spans}
 
 -- a plan that says the same is one
-plan_agrees : (xs : List Span) (steps : ℕ) (need other_need : ℕ → ℕ) (bound : ℕ) (plan other : ℕ → ℕ → ℕ)
+pub plan_agrees : (xs : List Span) (steps : ℕ) (need other_need : ℕ → ℕ) (bound : ℕ) (plan other : ℕ → ℕ → ℕ)
     → ((k : ℕ) → k < steps → other_need k ≡ need k)
     → ((k i : ℕ) → k < steps → i < length xs → other k i ≡ plan k i) → IsSpanPlan xs steps need bound plan
     → IsSpanPlan xs steps other_need bound other
@@ -55,7 +56,7 @@ sum_from-list-all {X} xs amounts len = sum_from-list (λ i (x : X). get_or amoun
 -- amounts within the sizes are few
 pub amounts_fit : (xs : List Span) (steps : ℕ) (amounts : List ℕ) → AreItemSpans xs steps → length amounts ≡ length xs
     → ((i : ℕ) → i < length xs → get_or amounts i 0 ≤ (span_at xs i).size)
-    → sum amounts ≤ most_total
+    → sum amounts ≤ most_span_total
 amounts_fit xs steps amounts spans len within =
     let less = sum-le-all (λ i x. get_or amounts i 0) (λ i x. x.size) xs within in
     omega (arith, less, sum_from-list-all xs amounts len, sum_from-sum_by (λ x. x.size) 0 xs, spans.total)
@@ -148,24 +149,24 @@ over_need system order traversal bound needs long needs_are NoMemory over = absu
 
 -- ---- two least spills have one volume
 
-cond_le : (b : Bool) (n : ℕ) → cond b n 0 ≤ n
+pub cond_le : (b : Bool) (n : ℕ) → cond b n 0 ≤ n
 cond_le true n = omega arith
 cond_le false n = omega arith
+
+pub sum_from-le : {X : Type 0} (f g : ℕ → X → ℕ) (base : ℕ) (xs : List X) → ((i : ℕ) (x : X) → f i x ≤ g i x)
+    → sum_from base f xs ≤ sum_from base g xs
+sum_from-le f g base [] each = omega arith
+sum_from-le f g base (x ∷ xs) each = omega (arith, each base x, sum_from-le f g (suc base) xs each)
 
 -- amounts that make a plan come to no less than its volume
 pub plan_volume-le : (system : TaskSystem) (order amounts : List ℕ) → length amounts ≡ length system.items
     → plan_volume system order (plan_by_amounts system order amounts) ≤ sum amounts
 plan_volume-le system order amounts len =
     let plan = plan_by_amounts system order amounts in
-    let each = items_le (λ i item. most_among (length order) (λ k. plan k i)) (λ i item. get_or amounts i 0) 0 system.items
+    let each = sum_from-le (λ i (item : Item). most_among (length order) (λ k. plan k i)) (λ i item. get_or amounts i 0) 0 system.items
     (λ i item. most_among-within (length order) (get_or amounts i 0) (λ k. plan k i)
     (λ k h. cond_le (is_held order k (nth_item system i)) (get_or amounts i 0))) in
     omega (arith, each, sum_from-list-all system.items amounts len)
-  where
-    items_le : (f g : ℕ → Item → ℕ) (base : ℕ) (items : List Item) → ((i : ℕ) (item : Item) → f i item ≤ g i item) → sum_from base f items
-        ≤ sum_from base g items
-    items_le f g base [] each = omega arith
-    items_le f g base (x ∷ items) each = omega (arith, each base x, items_le f g (suc base) items each)
 
 pub one_volume : (system : TaskSystem) (order : List ℕ) (bound : ℕ) (amounts others : List ℕ) (volume other : ℕ)
     → IsLeastSpill system order bound amounts volume → IsLeastSpill system order bound others other → volume ≡ other

@@ -7,3 +7,10 @@ pub mod ItemSpans
 pub mod StepNeeds
 pub mod Rankings
 pub mod LeastAmounts
+pub mod LatestUses
+pub mod GapSpans
+pub mod GapParts
+pub mod GapNeeds
+pub mod LeastGaps
+pub mod WholeMemory
+pub mod OneReader

@@ -7,11 +7,13 @@ use Rattle.std.proofs.lemmas.List.{take-append-drop}
 use Rattle.std.proofs.lemmas.List.Folds.{list_all_at}
 use Rattle.std.proofs.lemmas.List.Elements.{All-get_or}
 use Rattle.std.proofs.lemmas.List.Sums.{sum_by-cons}
+use Rattle.graphs.specs.Graph.{IsAmong}
 use Rattle.mp_system.specs.declared.system.Item.{Item}
 use Rattle.mp_system.specs.System.{TaskSystem, IsTask, is_named, is_input}
 use Rattle.mp_system.specs.Memory.{stands_in, is_produced, is_done_or, is_ready}
 use Rattle.mp_system.specs.Traversal.{IsTraversal}
-use Rattle.spill_plan.specs.Spans.{step_of}
+use Rattle.spill_plan.specs.Steps.{step_of}
+use Rattle.spill_plan.specs.Spans.{IsEachOnce}
 
 pub count-cons : (v u : ℕ) (order : List ℕ) → count_by (λ x. x == v) (u ∷ order) ≡ cond (u == v) 1 0 + count_by (λ x. x == v) order
 count-cons v u order = sum_by-cons (λ x. cond (x == v) 1 0) u order
@@ -71,17 +73,17 @@ stands-take (u ∷ order) v (suc k) h = go (u == v) (stands-take order v k (omeg
     go true e = sym (zero-lt k)
     go false e = e ∙ sym (lt-suc (step_of order v) k)
 
--- ---- in a traversal
+-- ---- where each task stands once
 
-module _ (system : TaskSystem) (order : List ℕ) (traversal : IsTraversal system order) where
-  pub task_step : (v : ℕ) → IsTask system v → (step_of order v < length order) × (get_or order (step_of order v) 0 ≡ v)
-  task_step v task = step_found order v (omega (arith, traversal.once v task))
+module _ (count : ℕ) (order : List ℕ) (each : IsEachOnce count order) where
+  pub task_step : (v : ℕ) → IsAmong count v → (step_of order v < length order) × (get_or order (step_of order v) 0 ≡ v)
+  task_step v task = step_found order v (omega (arith, each.once v task))
 
-  pub task_at_step : (k : ℕ) → k < length order → IsTask system (get_or order k 0)
-  task_at_step k h = All-get_or (IsTask system) order k 0 h traversal.tasks
+  pub task_at_step : (k : ℕ) → k < length order → IsAmong count (get_or order k 0)
+  task_at_step k h = All-get_or (IsAmong count) order k 0 h each.tasks
 
-  pub step_of_task : (v k : ℕ) → IsTask system v → k < length order → get_or order k 0 ≡ v → step_of order v ≡ k
-  step_of_task v k task h e = step_only order v k (omega (arith, traversal.once v task)) h e
+  pub step_of_task : (v k : ℕ) → IsAmong count v → k < length order → get_or order k 0 ≡ v → step_of order v ≡ k
+  step_of_task v k task h e = step_only order v k (omega (arith, each.once v task)) h e
 
   pub one_step : (i j : ℕ) → i < length order → j < length order → get_or order i 0 ≡ get_or order j 0 → i ≡ j
   one_step i j h l e =
@@ -89,18 +91,24 @@ module _ (system : TaskSystem) (order : List ℕ) (traversal : IsTraversal syste
       let b = step_of_task (get_or order j 0) j (task_at_step j l) l refl in
       omega (arith, a, b)
 
-  split_at : (k : ℕ) → k < length order → order ≡ take k order ++ get_or order k 0 ∷ drop (suc k) order
-  split_at k h = sym (take-append-drop k order) ∙ ap (λ (xs : List ℕ). take k order ++ xs) (drop-cons order k 0 h)
+pub each_once : (system : TaskSystem) (order : List ℕ) → IsTraversal system order → IsEachOnce (length system.tasks) order
+each_once system order traversal = record { once = traversal.once; tasks = traversal.tasks }
 
+-- ---- in a traversal
+
+pub split_at : (order : List ℕ) (k : ℕ) → k < length order → order ≡ take k order ++ get_or order k 0 ∷ drop (suc k) order
+split_at order k h = sym (take-append-drop k order) ∙ ap (λ (xs : List ℕ). take k order ++ xs) (drop-cons order k 0 h)
+
+module _ (system : TaskSystem) (order : List ℕ) (traversal : IsTraversal system order) where
   -- the producer of an item stands before its consumer
   pub produced_before : (i : ℕ) (d : Item) (u w : ℕ) → i < length system.items → (get_or system.items i d).from ≡ Some u
       → (get_or system.items i d).to ≡ Some w
       → IsTask system w → step_of order u < step_of order w
   produced_before i d u w h from to task =
       let k = step_of order w in
-      let at = task_step w task in
+      let at = task_step (length system.tasks) order (each_once system order traversal) w task in
       let ready : is_ready system (stands_in (take k order)) (get_or order k 0)
-      ≡ true = traversal.after_suppliers (take k order) (drop (suc k) order) (get_or order k 0) (split_at k at.0) in
+      ≡ true = traversal.after_suppliers (take k order) (drop (suc k) order) (get_or order k 0) (split_at order k at.0) in
       let ready_w : is_ready system (stands_in (take k order)) w
       ≡ true = subst (λ v. is_ready system (stands_in (take k order)) v ≡ true) at.1 ready in
       let stands : stands_in (take k order) u ≡ nat_lt (step_of order u) k = stands-take order u k (omega (arith, at.0)) in

@@ -5,9 +5,8 @@ use Rattle.std.specs.Prelude.{nat_lt, nat_le, nat_eq, ◌&&◌, slice_index}
 use Rattle.std.specs.List.{sum_by}
 use Rattle.std.specs.Prelude.{replicate}
 use Rattle.std.proofs.lemmas.List.Sums.{sum_by_more_le_part}
-use Rattle.limits.specs.Limits.{most_total}
 use Rattle.spill_plan.specs.declared.span.Span.{Span}
-use Rattle.spill_plan.specs.Spans.{no_span, AreItemSpans, is_across, start_sum, end_sum, spilled_at, kept_at, amount_sum}
+use Rattle.spill_plan.specs.Spans.{most_span_total, no_span, AreItemSpans, is_across, start_sum, end_sum, spilled_at, kept_at, amount_sum}
 use Rattle.spill_plan.specs.Spans.{demand, IsSpanPlan, span_volume, span_plan, IsRaised, IsSpilledAfter}
 use Rattle.spill_plan.specs.Spilled.{left_at, AreZero, between_at, IsRaising}
 use Rattle.spill_plan.specs.SpillPlans.{sum_from, most_among}
@@ -223,7 +222,7 @@ pub kept_after : (xs : List Span) (k over turn : ℕ) (was is : ℕ → ℕ) →
 kept_after xs k over turn was is fits room r = omega (arith, held_parts xs k was fits, held_parts xs k is r.within, r.sum_is)
 
 pub place_fits : (xs : List Span) (steps : ℕ) (test : Span → Bool) (i old : ℕ) → AreItemSpans xs steps → i < length xs → old
-    ≡ sum_by (λ x. cond (test x) x.size 0) (take i xs) → old + (get_or xs i no_span).size ≤ most_total
+    ≡ sum_by (λ x. cond (test x) x.size 0) (take i xs) → old + (get_or xs i no_span).size ≤ most_span_total
 place_fits xs steps test i old spans h e =
     let part = sum_by_more_le_part (λ x. cond (test x) x.size 0) (λ x. x.size) xs i no_span h
     (λ x. part_le (test x) x.size x.size (omega arith)) in
@@ -238,24 +237,28 @@ within_le : (b : Bool) (a s : ℕ) → cond b (s - a) 0 ≤ s
 within_le true a s = omega arith
 within_le false a s = omega arith
 
+within_both : (k : ℕ) (x : Span) (a : ℕ) → cond (is_across k x) (x.size - a) 0 + cond (nat_eq x.end k) (x.size - a) 0 ≤ x.size
+within_both k x a = split x.end k
+    (λ ended. omega (arith, cond-no (is_across k x) (x.size - a) (across-late k x ended), within_le (nat_eq x.end k) a x.size))
+    (λ later. omega (
+      arith,
+      cond-no (nat_eq x.end k) (x.size - a) (eq-no x.end k (λ e. omega arith)),
+      within_le (is_across k x) a x.size,
+    ))
+
+-- what is kept and what is left are no more than all there is
 pub held_fits : (xs : List Span) (steps k : ℕ) (amount : ℕ → ℕ) → AreItemSpans xs steps
-    → (kept_at k amount xs ≤ most_total) × (left_at k amount xs ≤ most_total)
-held_fits xs steps k amount spans = (
-  omega (
-    arith,
-    spans.total,
-    sum_from-sum_by (λ x. x.size) 0 xs,
-    sum-le-all (λ i x. cond (is_across k x) (x.size - amount i) 0)
-        (λ i x. x.size) xs (λ i h. within_le (is_across k (get_or xs i no_span)) (amount i) (get_or xs i no_span).size),
-  ),
-  omega (
-    arith,
-    spans.total,
-    sum_from-sum_by (λ x. x.size) 0 xs,
-    sum-le-all (λ i x. cond (nat_eq x.end k) (x.size - amount i) 0)
-        (λ i x. x.size) xs (λ i h. within_le (nat_eq (get_or xs i no_span).end k) (amount i) (get_or xs i no_span).size),
-  ),
-)
+    → kept_at k amount xs + left_at k amount xs ≤ most_span_total
+held_fits xs steps k amount spans =
+    let f : ℕ → Span → ℕ = λ i x. cond (is_across k x) (x.size - amount i) 0 in
+    let g : ℕ → Span → ℕ = λ i x. cond (nat_eq x.end k) (x.size - amount i) 0 in
+    omega (
+      arith,
+      spans.total,
+      sum_from-sum_by (λ x. x.size) 0 xs,
+      sum-add f g 0 xs,
+      sum-le-all (λ i x. f i x + g i x) (λ i x. x.size) xs (λ i h. within_both k (get_or xs i no_span) (amount i)),
+    )
 
 -- with nothing spilled what is left is all
 pub left_zero : (xs : List Span) (amounts : List ℕ) (e : ℕ) → AreZero amounts → left_at e (slice_index amounts) xs ≡ end_sum e xs

@@ -10,7 +10,7 @@ use Rattle.mp_system.specs.System.{task_at, is_input, is_output, inputs_of, outp
 use Rattle.mp_system.specs.Traversal.{IsTraversal}
 use Rattle.spill_plan.specs.SpillPlans.{own_need}
 use Rattle.spill_plan.proofs.SpanSums.{split}
-use Rattle.spill_plan.proofs.OrderSteps.{task_at_step}
+use Rattle.spill_plan.proofs.OrderSteps.{each_once, task_at_step}
 use Rattle.mp_system.proofs.Sums.{size_where-le}
 
 -- the task of a step, as code reads it
@@ -28,7 +28,7 @@ module _ (system : TaskSystem) (order : List ℕ) (within : IsSystem system) (tr
       → IsStepTask system order k (get_or tasks (get_or order k 0 - 1) d)
   step_task tasks same k d h =
       let v = get_or order k 0 in
-      let number : IsTask system v = task_at_step system order traversal k h in
+      let number : IsTask system v = task_at_step (length system.tasks) order (each_once system order traversal) k h in
       let w : v - 1 < length system.tasks = omega (arith, number.0, number.1) in
       let is : task_at system v ≡ get_or tasks (v - 1) d = get_or_default system.tasks (v - 1)
       (record { extra = 0; share = 0; time = 0 }) d w ∙ ap (λ ts. get_or ts (v - 1) d) (sym same) in

@@ -1,5 +1,9 @@
 pub mod SpillPlans
+pub mod Gaps
 pub mod Refusal
+pub mod Steps
 pub mod Spans
+pub mod GapSpans
 pub mod Spilled
 pub mod Samples
+pub mod GapSamples

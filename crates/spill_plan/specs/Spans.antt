@@ -1,24 +1,26 @@
 -- No public clause names this.
 -- Items as spans of steps along a traversal, and the amounts that are spilled of them.
-use Rattle.std.specs.Prelude.{◌≡◌, ◌==◌, ℕ, suc, ◌+◌, ◌-◌, ◌<◌, ◌≤◌, ◌&&◌, ◌⊎◌, nat_lt, nat_le, if◌then◌else◌, Bool, true, false, Option}
-use Rattle.std.specs.Prelude.{Some, None, List, [], ◌∷◌, length, slice_index, slice_index_or}
+use Rattle.std.specs.Prelude.{◌≡◌, ◌==◌, ℕ, suc, ◌+◌, ◌-◌, ◌*◌, ◌<◌, ◌≤◌, ◌&&◌, ◌⊎◌, nat_lt, nat_le, if◌then◌else◌, Bool}
+use Rattle.std.specs.Prelude.{true, false, All, Option, count_by}
+use Rattle.std.specs.Prelude.{Some, None, List, length, slice_index, slice_index_or}
 use Rattle.std.specs.List.{sum_by}
-use Rattle.limits.specs.Limits.{most_tasks, most_positions, most_total}
+use Rattle.limits.specs.Limits.{most_tasks, most_positions, most_size, most_total, most_uses}
 use Rattle.mp_system.specs.declared.system.Item.{Item}
-use Rattle.mp_system.specs.System.{TaskSystem, IsTask}
+use Rattle.graphs.specs.Graph.{IsAmong}
 use Rattle.spill_plan.specs.declared.span.Span.{Span}
+use Rattle.spill_plan.specs.Steps.{step_of}
 use Rattle.spill_plan.specs.SpillPlans.{sum_from, most_among}
 
--- the step of a task in an order, counted from 0; that of one that does not stand there is past the last
-abbrev pub step_of : List ℕ → ℕ → ℕ
-step_of [] task = 0
-step_of (u ∷ order) task = if u == task then 0 else suc (step_of order task)
+-- each of so many tasks stands once, and nothing else
+pub record IsEachOnce (count : ℕ) (order : List ℕ) : Type 0 where
+  pub once : (task : ℕ) → IsAmong count task → count_by (λ u. u == task) order ≡ 1
+  pub tasks : All (IsAmong count) order
 
--- the table of these steps
-pub record IsStepTable (system : TaskSystem) (order steps : List ℕ) : Type 0 where
+-- the table of the steps of so many tasks
+pub record IsStepTable (count : ℕ) (order steps : List ℕ) : Type 0 where
   pub few : length order ≤ most_tasks
-  pub len : length steps ≡ length system.tasks
-  pub each : (task : ℕ) → IsTask system task → slice_index steps (task - 1) ≡ step_of order task
+  pub len : length steps ≡ count
+  pub each : (task : ℕ) → IsAmong count task → slice_index steps (task - 1) ≡ step_of order task
 
 -- a task whose step is at hand, and low
 abbrev pub IsInTable : List ℕ → ℕ → Type 0
@@ -44,12 +46,19 @@ no_span = record { size = 0; start = 0; end = 0 }
 abbrev pub span_at : List Span → ℕ → Span
 span_at xs i = slice_index_or xs i no_span
 
+-- as many spans as items may have readers, and one for each item that has none; and what these come to
+abbrev pub most_spans : ℕ
+most_spans = most_uses + most_positions
+
+abbrev pub most_span_total : ℕ
+most_span_total = most_uses * most_size + most_total
+
 pub record AreItemSpans (xs : List Span) (steps : ℕ) : Type 0 where
-  pub few : length xs ≤ most_positions
+  pub few : length xs ≤ most_spans
   pub steps_few : steps ≤ most_tasks
   pub ordered : (i : ℕ) → i < length xs → (span_at xs i).start ≤ (span_at xs i).end
   pub ends : (i : ℕ) → i < length xs → (span_at xs i).end ≤ steps
-  pub total : sum_by (λ x. x.size) xs ≤ most_total
+  pub total : sum_by (λ x. x.size) xs ≤ most_span_total
 
 abbrev pub is_across : ℕ → Span → Bool
 is_across k x = nat_le x.start k && nat_lt k x.end

@@ -6,9 +6,10 @@ ghost use Rattle.spill_plan.specs.Spans.{AreItemSpans, IsInTable, span_of};
 use crate::NoMemory;
 use crate::steps::steps_by_task;
 use mp_system::System;
+use mp_system::laws::traversal_law;
 use std::alloc::Global;
 
-/// An item that is held across the steps from `start` on that come before `end`, and that the task of step `end` consumes, if there is one.
+/// What is held across the steps from `start` on that come before `end`, and what the task of step `end` reads, if there is one.
 #[derive(Clone, Copy, Debug, PartialEq, Eq)]
 pub struct Span {
     pub size: u64,
@@ -16,8 +17,8 @@ pub struct Span {
     pub end: u32,
 }
 
-// The step after that of the producer, or the first.
-fn start_of_item(steps: &[u32], producer: Option<u32>) -> u32
+/// The step after that of the producer, or the first.
+pub fn start_of_item(steps: &[u32], producer: Option<u32>) -> u32
     requires { ForSome producer (IsInTable steps.now) }
     ensures { result ≡ option_map_or (λ task. slice_index steps.now (task - 1) + 1) producer 0 }
 {
@@ -44,7 +45,9 @@ pub fn spans_of(alloc: Global, system: &System, order: &[u32]) -> Result<Vec<Spa
     ensures spans { IfOk result (λ spans. spans.items ≡ map (span_of order.now) system.now.items) }
     ensures within { IfOk result (λ spans. AreItemSpans spans.items (length order.now)) }
 {
-    let steps = steps_by_task(alloc, system, order)?;
+    traversal_law();
+    system.keeps();
+    let steps = steps_by_task(alloc, system.tasks().len(), order)?;
     let items = system.items();
     let mut spans = Vec::with_capacity(alloc, items.len())?;
     for item in items {

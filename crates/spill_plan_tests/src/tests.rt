@@ -1,5 +1,6 @@
 ghost use Rattle.std.specs.Prelude.{◌≡◌};
 
+mod gaps;
 mod plain;
 
 use mp_system::{Item, OrderFault, OrderKind, System, Task};
