@@ -194,16 +194,16 @@ IsAcceptedPerm [] text = ⊥
 IsAcceptedPerm (matrix ∷ earlier) text =
     (rows : List (List ℕ)) × (order : List ℕ) × IsMatrixFile matrix rows × IsPermFile (length rows) text order
 
--- a priority file stands after the files of the input whose tasks it ranks, and that of the order
-abbrev pub IsRefusedPriority : Input → List (List ℕ) → List ℕ → Answer → Type 0
-IsRefusedPriority input earlier text answer =
-    (mine : List (List ℕ)) × (one : List ℕ) × (system : TaskSystem) × (earlier ≡ mine ++ one ∷ []) × IsSystemOf input mine system
+-- a priority file stands after the files of the tasks that it ranks, and that of the order
+abbrev pub IsRefusedPriority : TaskSource → List (List ℕ) → List ℕ → Answer → Type 0
+IsRefusedPriority tasks earlier text answer =
+    (mine : List (List ℕ)) × (one : List ℕ) × (system : SharedTaskSystem) × (earlier ≡ mine ++ one ∷ []) × IsTaskSystemOf tasks mine system
     × IsRefusedFile (codes "priority") perm_word (RefusesPerm (length system.tasks) text) text answer
 
-abbrev pub IsAcceptedPriority : Input → List (List ℕ) → List ℕ → Type 0
-IsAcceptedPriority input earlier text =
-    (mine : List (List ℕ)) × (one : List ℕ) × (system : TaskSystem) × (priority : List ℕ) × (earlier ≡ mine ++ one ∷ [])
-    × IsSystemOf input mine system × IsPermFile (length system.tasks) text priority
+abbrev pub IsAcceptedPriority : TaskSource → List (List ℕ) → List ℕ → Type 0
+IsAcceptedPriority tasks earlier text =
+    (mine : List (List ℕ)) × (one : List ℕ) × (system : SharedTaskSystem) × (priority : List ℕ) × (earlier ≡ mine ++ one ∷ [])
+    × IsTaskSystemOf tasks mine system × IsPermFile (length system.tasks) text priority
 
 -- or after the plan file whose tasks it ranks
 abbrev pub IsRefusedPlanPriority : List (List ℕ) → List ℕ → Answer → Type 0
@@ -229,7 +229,7 @@ IsRefusedInRole (matrix_file ordering) earlier text answer =
 IsRefusedInRole perm_file earlier text answer = IsRefusedPerm earlier text answer
 IsRefusedInRole order_file earlier text answer = IsRefusedFile (codes "order") order_file_word (RefusesOrder text) text answer
 IsRefusedInRole plan_file earlier text answer = IsRefusedFile (codes "plan") plan_word (RefusesPlan text) text answer
-IsRefusedInRole (priority_file input) earlier text answer = IsRefusedPriority input earlier text answer
+IsRefusedInRole (priority_file tasks) earlier text answer = IsRefusedPriority tasks earlier text answer
 IsRefusedInRole plan_priority_file earlier text answer = IsRefusedPlanPriority earlier text answer
 
 -- the file has a value, after these texts of earlier files
@@ -242,7 +242,7 @@ HasValue (matrix_file ordering) earlier text = (rows : List (List ℕ)) × IsMat
 HasValue perm_file earlier text = IsAcceptedPerm earlier text
 HasValue order_file earlier text = (numbers : List ℕ) × IsOrderFile text numbers
 HasValue plan_file earlier text = (plan : PlanValue) × IsPlanFile text plan
-HasValue (priority_file input) earlier text = IsAcceptedPriority input earlier text
+HasValue (priority_file tasks) earlier text = IsAcceptedPriority tasks earlier text
 HasValue plan_priority_file earlier text = IsAcceptedPlanPriority earlier text
 
 -- some file is refused with this answer, and those before it have values; after earlier texts

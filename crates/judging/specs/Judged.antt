@@ -20,7 +20,7 @@ use Rattle.judging.specs.Told.{AreTold, HasFailed}
 use Rattle.judging.specs.Pages.{answer_of}
 use Rattle.matrix_files.specs.OrderKinds.{perm_word}
 use Rattle.requests.specs.Request.{Ordering, natural, min_degree, perm_named, Input, tree_input, workflow_named, NamedFile, OrderSource}
-use Rattle.requests.specs.Request.{input_files, source_file, TaskSource, input_tasks, graph_tasks, task_files}
+use Rattle.requests.specs.Request.{source_file, TaskSource, input_tasks, graph_tasks, task_files}
 use Rattle.shared_systems.specs.Shared.{SharedTaskSystem}
 use Rattle.shared_systems.specs.OneReader.{shared_of}
 use Rattle.least_peak.specs.Problem.{system_of}
@@ -31,7 +31,6 @@ use Rattle.judging.specs.declared.inputs.Order.TheVariants as orders
 use Rattle.judging.specs.declared.inputs.Priority.{Priority}
 use Rattle.judging.specs.declared.inputs.Priority.TheVariants as priorities
 use Rattle.judging.specs.declared.inputs.OrderedPattern.{OrderedPattern}
-use Rattle.judging.specs.declared.inputs.OrderedProblem.{OrderedProblem}
 use Rattle.judging.specs.declared.inputs.OrderedTasks.{OrderedTasks}
 use Rattle.judging.specs.declared.inputs.Tasks.{Tasks}
 use Rattle.judging.specs.declared.inputs.Tasks.TheVariants as tasks
@@ -154,10 +153,6 @@ pub record IsBeforeOrder {A : Type 0} (files : List NamedFile) (takes : List (Li
   pub is_value : takes mine value
   pub is_order : IsOrderRead source (text ∷ []) order
   pub accepted : AreAccepted (files ++ source_file source ∷ []) [] texts
-
--- the problem of an input, and the order of a source
-abbrev pub IsOrderedOf : Input → OrderSource → List (List ℕ) → OrderedProblem → Type 0
-IsOrderedOf input source texts ordered = IsBeforeOrder (input_files input) (IsProblemOf input) source texts ordered.problem ordered.order
 
 -- tasks, and the order of a source
 abbrev pub AreOrderedOf : TaskSource → OrderSource → List (List ℕ) → OrderedTasks → Type 0

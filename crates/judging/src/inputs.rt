@@ -2,13 +2,15 @@
 //! their priority.
 
 ghost use Rattle.std.specs.Prelude.{◌≡◌, ◌≤◌, ℕ, List, [], ◌∷◌, ◌++◌, IfOk, IfErr, MatchResult, length, option_map};
+ghost use Rattle.activation.specs.Machine.{IsSetting, start_state};
+ghost use Rattle.activation.specs.Refusal.{IsCoreRefusal};
 ghost use Rattle.activation.specs.Schedule.{HoldsEach};
-ghost use Rattle.mp_system.specs.System.{TaskSystem};
-ghost use Rattle.mp_system.specs.Traversal.{IsTraversal};
+ghost use Rattle.limits.specs.Limits.{most_workers};
+ghost use Rattle.shared_systems.specs.Shared.{SharedTaskSystem};
 ghost use Rattle.plans.specs.Plan.{IsPlan};
 ghost use Rattle.judging.specs.Files.{IsOrderOf, IsMatrixTree, IsTreeOf, IsFirstRefusal};
 ghost use Rattle.judging.specs.Priorities.{priority_or};
-ghost use Rattle.judging.specs.Judged.{AreJudged, IsRefusingPage, IsRefusedOrder, IsMatrixRead, IsProblemOf, IsOrderedOf, IsOrderRead};
+ghost use Rattle.judging.specs.Judged.{AreJudged, IsRefusingPage, IsRefusedOrder, IsMatrixRead, IsProblemOf, IsOrderRead};
 ghost use Rattle.judging.specs.Judged.{AreTasksOf, AreOrderedOf, system_of_tasks};
 ghost use Rattle.shared_systems.specs.SharedMemory.{shared_peak_of};
 ghost use Rattle.shared_systems.specs.SharedTraversal.{IsSharedTraversal, IsSharedOrderRefusal};
@@ -23,19 +25,19 @@ use crate::files::{
 };
 use crate::page::limit_page;
 use crate::stop::Stop;
+use activation::{Core, CoreRefusal};
 use least_peak::Problem;
 use limits::LimitName;
 use matrix_files::laws::read_is_perm;
 use mp_outside::Files;
 use mp_system::ReplayRefusal;
-use mp_system::laws::traversal_law;
 use ordering::{MindegRefusal, min_degree};
 use patterns::Pattern;
 use permutations::{Perm, identity};
 use plans::Plan;
 use requests::{Input, Matrix, OrderSource, OrderedMatrix, Ordering, TaskSource, TreeInput};
 use shared_systems::SharedSystem;
-use shared_systems::laws::one_reader_law;
+use shared_systems::laws::{one_reader_law, order_law};
 use sp_terms::laws::terms_law;
 use std::alloc::{AllocError, Global};
 use symbolic::front_tree;
@@ -186,6 +188,38 @@ impl Tasks {
             Tasks::Graph(system) => system.peak(alloc, order),
         }
     }
+
+    /// The number of tasks. Linear in the positions of a workflow.
+    pub fn count(&self) -> u32
+        ensures { result ≡ length (system_of_tasks self.now).tasks }
+    {
+        match self {
+            Tasks::Problem(problem) => problem.task_count(),
+            Tasks::Graph(system) => system.tasks().len() as u32,
+        }
+    }
+
+    /// The core that runs the tasks on 1 to 4,096 workers within a bound on memory, activated in an order. Refused are an order that is
+    /// no traversal, and a bound below its peak.
+    pub fn core(
+        &self,
+        alloc: Global,
+        order: &[u32],
+        bound: u64,
+        workers: u32,
+    ) -> Result<Core, CoreRefusal>
+        requires { (1 ≤ workers) × (workers ≤ most_workers) }
+        ensures setting { IfOk result (λ core. core.setting
+            ≡ record { system = system_of_tasks self.now; order = order.now; bound = bound; workers = workers }) }
+        ensures start { IfOk result (λ core. core.state ≡ start_state core.setting) }
+        ensures within { IfOk result (λ core. IsSetting core.setting) }
+        ensures refused { IfErr result (IsCoreRefusal (system_of_tasks self.now) order.now bound) }
+    {
+        match self {
+            Tasks::Problem(problem) => problem.core(alloc, order, bound, workers),
+            Tasks::Graph(system) => Core::new(alloc, system, order, bound, workers),
+        }
+    }
 }
 
 /// The tasks of a source.
@@ -232,9 +266,10 @@ impl Order {
     /// The tasks in the order in which they claim a worker: the priority of a plan that has one, else the order itself.
     pub fn priority(&self) -> &[u32]
         ensures value { result.now ≡ own_priority self.now }
-        ensures each { (system : TaskSystem) → IsTraversal system (order_tasks self.now) → HoldsEach system result.now }
+        ensures each { (system : SharedTaskSystem) →
+            IsSharedTraversal system (order_tasks self.now) → HoldsEach system result.now }
     {
-        traversal_law();
+        order_law();
         match self {
             Order::Listed(numbers) => numbers,
             Order::Planned(plan) => priority_of(plan),
@@ -277,32 +312,6 @@ fn judge_order<F: Files>(
             Ok(Order::Planned(plan))
         }
     }
-}
-
-/// A problem, and an order of its tasks.
-#[derive(Drop)]
-pub struct OrderedProblem {
-    pub problem: Problem,
-    pub order: Order,
-}
-
-/// The problem of an input, and the order of a source.
-pub fn judge_ordered<F: Files>(
-    alloc: Global,
-    files: &mut F,
-    input: Input<'_>,
-    source: OrderSource<'_>,
-) -> Result<OrderedProblem, Stop>
-    ensures judged { AreJudged (F.bytes_of files.old) (F.faults_of files.old) (F.faults_of files.new)
-        (input_files (input_view input.entry) ++ source_file (source_view source.entry) ∷ [])
-        (IsOrderedOf (input_view input.entry) (source_view source.entry))
-        (IsFirstRefusal (input_files (input_view input.entry) ++ source_file (source_view source.entry) ∷ []) []) result }
-    ensures same { (other : List ℕ) → F.bytes_of files.new other ≡ F.bytes_of files.old other }
-    ensures later { (other : List ℕ) → F.faults_of files.old other ≤ F.faults_of files.new other }
-{
-    let problem = judge_input(alloc, files, input)?;
-    let order = judge_order(alloc, files, source)?;
-    Ok(OrderedProblem { problem, order })
 }
 
 /// Tasks, and an order of them.

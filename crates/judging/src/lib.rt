@@ -15,8 +15,8 @@ pub use files::{
     TreeFile, WorkflowFile, judge,
 };
 pub use inputs::{
-    Order, OrderedPattern, OrderedProblem, OrderedTasks, Priority, Tasks, judge_input,
-    judge_matrix, judge_ordered, judge_ordered_tasks, judge_pattern, judge_priority, judge_tree,
+    Order, OrderedPattern, OrderedTasks, Priority, Tasks, judge_input, judge_matrix,
+    judge_ordered_tasks, judge_pattern, judge_priority, judge_tree,
 };
 pub use numbered::{NumberedTerm, judge_numbered};
 pub use page::{

@@ -8,6 +8,7 @@ pub mod ReportLemmas
 pub mod RunLemmas
 pub mod SimulationLemmas
 pub mod SoundAnswer
+pub mod GapLemmas
 pub mod SpillLemmas
 pub mod StairPages
 pub mod StairsLemmas

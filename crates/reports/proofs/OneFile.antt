@@ -3,7 +3,7 @@ use Rattle.std.proofs.Common.{◌≡◌, ◌∙◌, ℕ, List, [], ◌∷◌, �
 use Rattle.std.specs.Prelude.{codes}
 use Rattle.mp_text.specs.declared.refusals.Refusal.{Refusal}
 use Rattle.mp_text.specs.declared.refusals.Refusal.TheVariants as refusals
-use Rattle.mp_system.specs.System.{TaskSystem}
+use Rattle.shared_systems.specs.Shared.{SharedTaskSystem}
 use Rattle.matrix_files.specs.Kinds.{word_of as matrix_word}
 use Rattle.matrix_files.specs.MatrixFile.{ReadsPattern, RefusesPattern}
 use Rattle.matrix_files.specs.OrderKinds.{perm_word, order_file_word}
@@ -20,11 +20,11 @@ use Rattle.shared_graph_files.specs.EitherVersion.{ReadsSharedGraph, RefusesShar
 use Rattle.tree_files.specs.Kinds.{word_of as tree_word}
 use Rattle.tree_files.specs.TreeFile.{ReadsTree, RefusesTree}
 use Rattle.judging.specs.Files.{Answer, IsMatrixFile, HasOrdering, IsTooLarge, IsWithinBytes, IsRefusedAs}
-use Rattle.judging.specs.Files.{IsRefusedFile, HasValue, IsRefusedInRole, IsSystemOf, IsPlanFile}
-use Rattle.requests.specs.Request.{Ordering, natural, min_degree, perm_named, Input, FileRole, tree_file, workflow_file, graph_file}
+use Rattle.judging.specs.Files.{IsRefusedFile, HasValue, IsRefusedInRole, IsTaskSystemOf, IsPlanFile}
+use Rattle.requests.specs.Request.{Ordering, natural, min_degree, perm_named, TaskSource, FileRole, tree_file, workflow_file, graph_file}
 use Rattle.requests.specs.Request.{shared_graph_file}
 use Rattle.requests.specs.Request.{matrix_file, perm_file, order_file, plan_file, priority_file, plan_priority_file}
-use Rattle.reports.proofs.OneInput.{Systems, same_texts}
+use Rattle.reports.proofs.OneInput.{TaskSystems, same_task_texts}
 
 -- what is known of a format
 pub record IsFormat {K V : Type 0} (reads : List ℕ → V → Type 0) (refuses : List ℕ → Refusal K → Type 0) : Type 0 where
@@ -65,15 +65,15 @@ pub record Formats : Type 0 where
   pub plans : IsFormat ReadsPlan RefusesPlan
   pub patterns : (bytes : List ℕ) (one two : List (List ℕ)) → ReadsPattern bytes one → ReadsPattern bytes two → one ≡ two
   pub one_plan : (bytes : List ℕ) (one two : PlanValue) → ReadsPlan bytes one → ReadsPlan bytes two → one ≡ two
-  pub systems : Systems
+  pub systems : TaskSystems
 
 module _ (f : Formats) where
   -- the texts before a priority file give as many tasks
-  same_tasks : (input : Input) (mine mine' : List (List ℕ)) (one one' : List ℕ) (s t : TaskSystem)
-      → mine ++ one ∷ [] ≡ mine' ++ one' ∷ [] → IsSystemOf input mine s → IsSystemOf input mine' t
+  same_tasks : (tasks : TaskSource) (mine mine' : List (List ℕ)) (one one' : List ℕ) (s t : SharedTaskSystem)
+      → mine ++ one ∷ [] ≡ mine' ++ one' ∷ [] → IsTaskSystemOf tasks mine s → IsTaskSystemOf tasks mine' t
       → length s.tasks ≡ length t.tasks
-  same_tasks input mine mine' one one' s t split is is' =
-      ap (λ (x : TaskSystem). length x.tasks) (same_texts f.systems input mine mine' one one' [] [] s t split is is').3
+  same_tasks tasks mine mine' one one' s t split is is' =
+      ap (λ (x : SharedTaskSystem). length x.tasks) (same_task_texts f.systems tasks mine mine' one one' [] [] s t split is is').3
 
   abbrev perm_refused : List ℕ → ℕ → List ℕ → Answer → Type 0
   perm_refused file n text answer = IsRefusedFile file perm_word (RefusesPerm n text) text answer
@@ -125,12 +125,12 @@ module _ (f : Formats) where
       not_refused (codes "order") order_file_word ReadsOrder RefusesOrder f.orders text answer numbers is refused
   not_both plan_file earlier text answer (plan, is) refused =
       not_refused (codes "plan") plan_word ReadsPlan RefusesPlan f.plans text answer plan is refused
-  not_both (priority_file input) earlier text answer
+  not_both (priority_file tasks) earlier text answer
       (mine, one, s, order, split, is_system, is) (mine', one', t, split', is_system', refused) =
       let n = length s.tasks in
       not_refused (codes "priority") perm_word (ReadsPerm n) (RefusesPerm n) (f.perms n) text answer order is
       (subst (λ (k : ℕ). perm_refused (codes "priority") k text answer)
-      (same_tasks input mine' mine one' one t s (sym split' ∙ split) is_system' is_system) refused)
+      (same_tasks tasks mine' mine one' one t s (sym split' ∙ split) is_system' is_system) refused)
   not_both plan_priority_file [] text answer is refused = absurd is
   not_both plan_priority_file (first ∷ earlier) text answer (plan, order, is_plan, is) (plan', is_plan', refused) =
       let n = length plan.order in
@@ -160,12 +160,12 @@ module _ (f : Formats) where
       refused_once (codes "order") order_file_word ReadsOrder RefusesOrder f.orders text one two is other
   one_refusal plan_file earlier text one two is other =
       refused_once (codes "plan") plan_word ReadsPlan RefusesPlan f.plans text one two is other
-  one_refusal (priority_file input) earlier text one two
+  one_refusal (priority_file tasks) earlier text one two
       (mine, first, s, split, is_system, is) (mine', first', t, split', is_system', other) =
       let n = length s.tasks in
       refused_once (codes "priority") perm_word (ReadsPerm n) (RefusesPerm n) (f.perms n) text one two is
       (subst (λ (k : ℕ). perm_refused (codes "priority") k text two)
-      (same_tasks input mine' mine first' first t s (sym split' ∙ split) is_system' is_system) other)
+      (same_tasks tasks mine' mine first' first t s (sym split' ∙ split) is_system' is_system) other)
   one_refusal plan_priority_file [] text one two is other = absurd is
   one_refusal plan_priority_file (first ∷ earlier) text one two (plan, is_plan, is) (plan', is_plan', other) =
       let n = length plan.order in

@@ -15,7 +15,11 @@ use Rattle.sp_terms.specs.Term.{Term}
 use Rattle.sp_terms.specs.Values.{IsTerms, term_of}
 use Rattle.workflow_files.specs.WorkflowFile.{ReadsWorkflow}
 use Rattle.shared_systems.specs.Shared.{SharedTaskSystem}
+use Rattle.shared_systems.specs.SharedTraversal.{IsSharedTraversal}
+use Rattle.shared_systems.specs.Bounds.{IsSharedSystem}
 use Rattle.shared_systems.specs.OneReader.{shared_of}
+use Rattle.shared_systems.proofs.OneReader.{traversal_within}
+use Rattle.shared_systems.proofs.SameSystems.{to_own}
 use Rattle.shared_graph_files.specs.EitherVersion.{ReadsSharedGraph}
 use Rattle.symbolic.specs.FrontTree.{IsFrontTree}
 use Rattle.symbolic.specs.declared.options.FrontOptions.{FrontOptions}
@@ -48,6 +52,10 @@ one_term ps t u is other = let e : Some (t ∷ []) ≡ Some (u ∷ []) = sym is 
 abbrev OneValue : {V : Type 0} → (List ℕ → V → Type 0) → Type 0
 OneValue {V} reads = (bytes : List ℕ) (one two : V) → reads bytes one → reads bytes two → one ≡ two
 
+-- a system that is within the limits, if a traversal shows that all its tasks can be ordered
+abbrev pub IsRunnable : SharedTaskSystem → Type 0
+IsRunnable system = (order : List ℕ) → IsSharedTraversal system order → IsSharedSystem system
+
 -- what is known of the parts of an input
 pub record Parts : Type 0 where
   pub trees : OneValue ReadsTree
@@ -69,6 +77,7 @@ pub record Parts : Type 0 where
       → IsFrontTree options rows order nodes → IsTree nodes
   pub workflows : OneValue ReadsWorkflow
   pub graphs : OneValue ReadsSharedGraph
+  pub graph : (bytes : List ℕ) (system : SharedTaskSystem) → ReadsSharedGraph bytes system → IsSharedSystem system
   pub terms : (bytes : List ℕ) (positions : List Position) → ReadsWorkflow bytes positions → IsTerms positions
   pub denotes : (positions : List Position) → IsTerms positions → Denotes positions (term_of positions)
   pub term_system : (positions : List Position) → IsTerms positions → IsSystem (system_of_term (term_of positions))
@@ -129,12 +138,15 @@ module _ (p : Parts) where
   one_system (workflow_named name) (text ∷ more ∷ texts) s t is other = absurd is
 
   pub one_task_system : (source : TaskSource) (texts : List (List ℕ)) (s t : SharedTaskSystem) → IsTaskSystemOf source texts s
-      → IsTaskSystemOf source texts t → (s ≡ t) × (length texts ≡ length (task_files source))
+      → IsTaskSystemOf source texts t → (s ≡ t) × IsRunnable s × (length texts ≡ length (task_files source))
   one_task_system (input_tasks input) texts s t (own, is, e) (other, is', e') =
       let one = one_system input texts own other is is' in
-      (e ∙ ap shared_of one.0 ∙ sym e', one.2)
+      let within : IsRunnable (shared_of own) =
+      λ order traversal. traversal_within own one.1 order (to_own own order traversal) in
+      (e ∙ ap shared_of one.0 ∙ sym e', subst IsRunnable (sym e) within, one.2)
   one_task_system (graph_tasks name) [] s t is other = absurd is
-  one_task_system (graph_tasks name) (text ∷ []) s t is other = (p.graphs text s t is.1 other.1, refl)
+  one_task_system (graph_tasks name) (text ∷ []) s t is other =
+      (p.graphs text s t is.1 other.1, λ order traversal. p.graph text s is.1, refl)
   one_task_system (graph_tasks name) (text ∷ more ∷ texts) s t is other = absurd is
 
   pub one_list_of_positions : (input : Input) (texts : List (List ℕ)) (s t : TaskSystem) (ps qs : List Position)
@@ -186,13 +198,13 @@ same_texts systems input mine mine' text text' rest rest' s t split is is' =
 -- and of those of tasks
 abbrev pub TaskSystems : Type 0
 TaskSystems = (source : TaskSource) (texts : List (List ℕ)) (one two : SharedTaskSystem) → IsTaskSystemOf source texts one
-    → IsTaskSystemOf source texts two → (one ≡ two) × (length texts ≡ length (task_files source))
+    → IsTaskSystemOf source texts two → (one ≡ two) × IsRunnable one × (length texts ≡ length (task_files source))
 
 pub same_task_texts : TaskSystems
     → (source : TaskSource) (mine mine' : List (List ℕ)) (text text' : List ℕ) (rest rest' : List (List ℕ)) (s t : SharedTaskSystem)
     → mine ++ text ∷ rest ≡ mine' ++ text' ∷ rest' → IsTaskSystemOf source mine s
     → IsTaskSystemOf source mine' t → (mine ≡ mine') × (text ≡ text') × (rest ≡ rest') × (s ≡ t)
 same_task_texts systems source mine mine' text text' rest rest' s t split is is' =
-    let len = (systems source mine s s is is).1 ∙ sym ((systems source mine' t t is' is').1) in
+    let len = (systems source mine s s is is).2 ∙ sym ((systems source mine' t t is' is').2) in
     let same = same_cut mine mine' text text' rest rest' len split in
     (same.0, same.1, same.2, (systems source mine s t is (subst (λ (ts : List (List ℕ)). IsTaskSystemOf source ts t) (sym same.0) is')).0)

@@ -9,7 +9,7 @@ use Rattle.claim_check.specs.Verdicts.{IsVerdict}
 use Rattle.claim_check.specs.declared.verdict.Verdict.{Verdict}
 use Rattle.mp_system.specs.declared.system.OrderKind.{OrderKind}
 use Rattle.mp_system.specs.Memory.{peak_of}
-use Rattle.mp_system.specs.System.{TaskSystem, IsSystem}
+use Rattle.mp_system.specs.System.{TaskSystem}
 use Rattle.mp_system.specs.Traversal.{IsTraversal, first_fault}
 use Rattle.matrix_files.specs.OrderFile.{ReadsOrder}
 use Rattle.permutations.specs.Perm.{IsPerm}
@@ -26,14 +26,14 @@ use Rattle.trees.specs.Tree.{IsTree, system_of_nodes}
 use Rattle.reports.specs.Reports.{IsReport, IsDecided}
 use Rattle.reports.specs.Check.{IsCheckOf, verdict_answer}
 use Rattle.judging.specs.Files.{Answer, AreAccepted, HasValue, IsRefusedInRole, IsFirstRefusal, IsOrderFrom}
-use Rattle.judging.specs.Files.{IsTreeOf, IsSystemOf, IsSystemWithTerm, order_refused}
+use Rattle.judging.specs.Files.{IsTreeOf, IsSystemOf, IsTaskSystemOf, IsSystemWithTerm, order_refused}
 use Rattle.reports.specs.Demo.{IsDemoOf}
 use Rattle.reports.specs.Fronts.{IsFrontsOf}
 use Rattle.reports.specs.Post.{IsPost, post_answer}
 use Rattle.reports.specs.Replay.{IsReplayAnswer, IsReplayOf}
 use Rattle.requests.specs.Request.{Request, replay, tree, post, check, planning, simulate, demo, upgrade, spill, segments}
 use Rattle.requests.specs.Request.{reduce, Upgrade, IsInRange, IsMakeable, TreeInput, matrix_named, Input, OrderSource}
-use Rattle.requests.specs.Request.{TaskSource, task_files}
+use Rattle.requests.specs.Request.{TaskSource, input_tasks, graph_tasks, task_files}
 use Rattle.requests.specs.Request.{order_named, plan_named, Simulation, FileRole, NamedFile, tree_input_files, input_files}
 use Rattle.requests.specs.Request.{source_file, priority_file, priority_files, files_of, fronts, OrderedMatrix}
 use Rattle.reports.specs.Simulate.{IsPriorityFrom, IsSimulation, IsSimulationOf, setting_of, simulation_answer}
@@ -45,7 +45,7 @@ use Rattle.reports.specs.Upgrade.{Versioned, IsUpgradedFrom}
 use Rattle.requests.specs.declared.commands.demo.Demo.{Demo}
 use Rattle.judging.proofs.InputLemmas.{ordered_accepted, matrix_accepted, tree_accepted, input_accepted, source_accepted, work_has_system}
 use Rattle.judging.proofs.InputLemmas.{system_accepted}
-use Rattle.reports.proofs.OneInput.{Systems, TaskSystems, same_texts, same_task_texts}
+use Rattle.reports.proofs.OneInput.{IsRunnable, Systems, TaskSystems, same_texts, same_task_texts}
 use Rattle.reports.proofs.UpgradeLemmas.{upgrade_accepted, one_upgrade_answer}
 use Rattle.reports.proofs.StairsLemmas.{one_segments, numbered_accepted}
 use Rattle.judging.proofs.HeldTasks.{of_traversal, of_perm, of_own}
@@ -65,7 +65,7 @@ pub record Reports : Type 0 where
   pub plan : (bytes : List ℕ) (a : PlanValue) → ReadsPlan bytes a → IsPlan a
   pub fault : (system : TaskSystem) (order : List ℕ) → (first_fault system order ≡ None) ↔ IsTraversal system order
   pub shared_fault : (system : SharedTaskSystem) (order : List ℕ) → (first_shared_fault system order ≡ None) ↔ IsSharedTraversal system order
-  pub long : (system : TaskSystem) (order : List ℕ) → IsTraversal system order → length order ≡ length system.tasks
+  pub long : (system : SharedTaskSystem) (order : List ℕ) → IsSharedTraversal system order → length order ≡ length system.tasks
   pub best : (nodes : List Node) (a b : List ℕ) → IsTree nodes → IsBestPostorder nodes a → IsBestPostorder nodes b → a ≡ b
   pub verdict : (system : TaskSystem) (ps : List Position) (plan : PlanValue) (a b : Verdict)
       → IsVerdict system ps plan a → IsVerdict system ps plan b → a ≡ b
@@ -111,32 +111,32 @@ module _ (r : Reports) where
   one_replay system order a b (inr (place, kind, fault, e)) (inl is) = absurd (no_shared_fault system order place kind is.0 fault)
   one_replay system order a b (inr is) (inr is') = same_fault (first_shared_fault system order) a b is is'
 
-  one_simulation : (c : Setting) (priority : List ℕ) (a b : Answer) → IsSystem c.system
-      → 1 ≤ c.workers → (IsTraversal c.system c.order → HoldsEach c.system priority)
+  one_simulation : (c : Setting) (priority : List ℕ) (a b : Answer) → IsRunnable c.system
+      → 1 ≤ c.workers → (IsSharedTraversal c.system c.order → HoldsEach c.system priority)
       → IsSimulation c priority a → IsSimulation c priority b → a ≡ b
-  one_simulation c priority a b system workers holds (inl is) (inl is') = same_fault (first_fault c.system c.order) a b is is'
+  one_simulation c priority a b system workers holds (inl is) (inl is') = same_fault (first_shared_fault c.system c.order) a b is is'
   one_simulation c priority a b system workers holds (inl (place, kind, fault, e)) (inr (inl is)) =
-      absurd (no_fault c.system c.order place kind is.0 fault)
+      absurd (no_shared_fault c.system c.order place kind is.0 fault)
   one_simulation c priority a b system workers holds (inl (place, kind, fault, e)) (inr (inr (es, is, within, scheduled, e'))) =
-      absurd (no_fault c.system c.order place kind is fault)
+      absurd (no_shared_fault c.system c.order place kind is fault)
   one_simulation c priority a b system workers holds (inr (inl is)) (inl (place, kind, fault, e)) =
-      absurd (no_fault c.system c.order place kind is.0 fault)
+      absurd (no_shared_fault c.system c.order place kind is.0 fault)
   one_simulation c priority a b system workers holds (inr (inl is)) (inr (inl is')) = is.2 ∙ sym is'.2
   one_simulation c priority a b system workers holds (inr (inl is)) (inr (inr (es, is', within, scheduled, e'))) =
       absurd (omega (arith, is.1, within))
   one_simulation c priority a b system workers holds (inr (inr (es, is, within, scheduled, e'))) (inl (place, kind, fault, e)) =
-      absurd (no_fault c.system c.order place kind is fault)
+      absurd (no_shared_fault c.system c.order place kind is fault)
   one_simulation c priority a b system workers holds (inr (inr (es, is, within, scheduled, e'))) (inr (inl is')) =
       absurd (omega (arith, is'.1, within))
   one_simulation c priority a b system workers holds
       (inr (inr (es, is, within, scheduled, e))) (inr (inr (fs, is', within', scheduled', e'))) =
-      let setting : IsSetting c = record { system = system; traversal = is; bound = within; workers = workers } in
+      let setting : IsSetting c = record { system = system c.order is; traversal = is; bound = within; workers = workers } in
       e ∙ ap (simulation_answer c) (r.schedule c setting priority (holds is) es fs scheduled scheduled') ∙ sym e'
 
   -- the priority, which holds each task once where the order is a traversal
-  own_priority : (source : OrderSource) (system : TaskSystem) (text order a b : List ℕ)
+  own_priority : (source : OrderSource) (system : SharedTaskSystem) (text order a b : List ℕ)
       → IsOrderFrom source text order → IsOwnPriority source text order a → IsOwnPriority source text order b
-      → (a ≡ b) × (IsTraversal system order → HoldsEach system a)
+      → (a ≡ b) × (IsSharedTraversal system order → HoldsEach system a)
   own_priority (order_named name) system text order a b is_order is is' =
       (is ∙ sym is', λ traversal. subst (HoldsEach system) (sym is) (of_traversal system order traversal))
   own_priority (plan_named name) system text order a b (plan, is_plan, same) (own, is, e) (other, is', e') = (
@@ -148,11 +148,11 @@ module _ (r : Reports) where
   )
 
   one_priority :
-      (source : OrderSource) (name : Option (List ℕ)) (system : TaskSystem) (text : List ℕ) (rest : List (List ℕ)) (order a b : List ℕ)
+      (source : OrderSource) (name : Option (List ℕ)) (system : SharedTaskSystem) (text : List ℕ) (rest : List (List ℕ)) (order a b : List ℕ)
       → IsOrderFrom source text order
       → IsPriorityFrom source name (length system.tasks) text rest order a
       → IsPriorityFrom source name (length system.tasks) text rest order b
-      → (a ≡ b) × (IsTraversal system order → HoldsEach system a)
+      → (a ≡ b) × (IsSharedTraversal system order → HoldsEach system a)
   one_priority source None system text [] order a b is_order is is' = own_priority source system text order a b is_order is is'
   one_priority source None system text (f ∷ fs) order a b is_order is is' = absurd is
   one_priority source (Some name) system text [] order a b is_order is is' = absurd is
@@ -186,18 +186,19 @@ module _ (r : Reports) where
   posted_once nodes a b is (order, best, e) (order', best', e') =
       e ∙ ap (λ (o : List ℕ). post_answer (peak_of (system_of_nodes nodes) o) o) (r.best nodes order order' is best best') ∙ sym e'
 
-  simulated_once : (input : Input) (source : OrderSource) (s : Simulation) (texts : List (List ℕ)) (a b : Answer) → 1 ≤ s.workers
-      → IsSimulationOf input source s texts a → IsSimulationOf input source s texts b → a ≡ b
-  simulated_once input source s texts a b workers
+  simulated_once : (tasks : TaskSource) (source : OrderSource) (s : Simulation) (texts : List (List ℕ)) (a b : Answer) → 1 ≤ s.workers
+      → IsSimulationOf tasks source s texts a → IsSimulationOf tasks source s texts b → a ≡ b
+  simulated_once tasks source s texts a b workers
       (mine, text, rest, system, order, priority, split, is_system, is_order, is_priority, is)
       (mine', text', rest', system', order', priority', split', is_system', is_order', is_priority', is') =
-      let same = same_texts r.systems input mine mine' text text' rest rest' system system' (sym split ∙ split') is_system is_system' in
+      let same = same_task_texts r.task_systems tasks mine mine' text text' rest rest' system system' (sym split ∙ split')
+      is_system is_system' in
       let orders =
       one_order source text order order' is_order (subst (λ (x : List ℕ). IsOrderFrom source x order') (sym same.1) is_order') in
       let moved = coe 1 0
       (i. IsPriorityFrom source s.priority (length (same.3 i).tasks) (same.1 i) (same.2 i) (orders i) priority') is_priority' in
       let one = one_priority source s.priority system text rest order priority priority' is_order is_priority moved in
-      one_simulation (setting_of system order s) priority a b (r.systems input mine system system is_system is_system).1 workers one.1 is
+      one_simulation (setting_of system order s) priority a b (r.task_systems tasks mine system system is_system is_system).1 workers one.1 is
       (coe 1 0 (i. IsSimulation (setting_of (same.3 i) (orders i) s) (one.0 i) b) is')
 
   pub one_report : (request : Request) (texts : List (List ℕ)) (a b : Answer) → IsInRange request → IsDecided request
@@ -210,10 +211,10 @@ module _ (r : Reports) where
       posted_once nodes a b one.1 best (subst (λ (ns : List Node). IsPost ns b) (sym one.0) best')
   one_report (check input plan workers) texts a b has decided is is' = checked_once input texts a b is is'
   one_report (planning input format) texts a b workers decided is is' = absurd decided
-  one_report (simulate input source s) texts a b workers decided is is' = simulated_once input source s texts a b workers.0 is is'
+  one_report (simulate tasks source s) texts a b workers decided is is' = simulated_once tasks source s texts a b workers.0 is is'
   one_report (demo made) texts a b within decided is is' = r.demos made a b within is is'
   one_report (upgrade u) texts a b within decided is is' = one_upgrade_answer r.upgrades u texts a b is is'
-  one_report (spill input source bound) texts a b within decided is is' = absurd decided
+  one_report (spill tasks source bound) texts a b within decided is is' = absurd decided
   one_report (segments input) texts a b within decided is is' = one_segments r.numbered r.stairs input texts a b is is'
   one_report (fronts m bound workers) texts a b within decided is is' = r.fronts m bound workers texts a b within.0 is is'
   one_report (reduce name) texts a b within decided is is' = absurd decided
@@ -244,21 +245,27 @@ module _ (r : Reports) where
   with_input input ys texts mine two s split is more =
       with_files (input_files input) ys texts mine two split (r.systems input mine s s is is).2 (input_accepted input mine s is) more
 
-  priority_accepted : (input : Input) (source : OrderSource) (name : Option (List ℕ))
-      (mine : List (List ℕ)) (text : List ℕ) (rest : List (List ℕ)) (system : TaskSystem) (order a : List ℕ)
-      → IsSystemOf input mine system → IsPriorityFrom source name (length system.tasks) text rest order a
-      → AreAccepted (priority_files (priority_file input) name) (mine ++ text ∷ []) rest
-  priority_accepted input source None mine text rest system order a is_system is = tt
-  priority_accepted input source (Some name) mine text [] system order a is_system is = absurd is
-  priority_accepted input source (Some name) mine text (f ∷ []) system order a is_system is =
+  -- those of tasks, and more
+  with_tasks : (tasks : TaskSource) (ys : List NamedFile) (texts mine two : List (List ℕ)) (s : SharedTaskSystem)
+      → texts ≡ mine ++ two → IsTaskSystemOf tasks mine s → AreAccepted ys mine two
+      → AreAccepted (task_files tasks ++ ys) [] texts
+  with_tasks tasks ys texts mine two s split is more =
+      with_files (task_files tasks) ys texts mine two split (r.task_systems tasks mine s s is is).2 (system_accepted tasks mine s is) more
+
+  priority_accepted : (tasks : TaskSource) (source : OrderSource) (name : Option (List ℕ))
+      (mine : List (List ℕ)) (text : List ℕ) (rest : List (List ℕ)) (system : SharedTaskSystem) (order a : List ℕ)
+      → IsTaskSystemOf tasks mine system → IsPriorityFrom source name (length system.tasks) text rest order a
+      → AreAccepted (priority_files (priority_file tasks) name) (mine ++ text ∷ []) rest
+  priority_accepted tasks source None mine text rest system order a is_system is = tt
+  priority_accepted tasks source (Some name) mine text [] system order a is_system is = absurd is
+  priority_accepted tasks source (Some name) mine text (f ∷ []) system order a is_system is =
       ((mine, text, system, a, refl, is_system, is), tt)
-  priority_accepted input source (Some name) mine text (f ∷ g ∷ fs) system order a is_system is = absurd is
+  priority_accepted tasks source (Some name) mine text (f ∷ g ∷ fs) system order a is_system is = absurd is
 
   pub report_accepted : (request : Request) (texts : List (List ℕ)) (a : Answer)
       → IsReport request texts a → AreAccepted (files_of request) [] texts
   report_accepted (replay tasks source) texts a (mine, text, s, order, split, is_system, is_order, is) =
-      with_files (task_files tasks) (source_file source ∷ []) texts mine (text ∷ []) split
-      (r.task_systems tasks mine s s is_system is_system).1 (system_accepted tasks mine s is_system)
+      with_tasks tasks (source_file source ∷ []) texts mine (text ∷ []) s split is_system
       (source_accepted source mine text order is_order, tt)
   report_accepted (tree m) texts a (nodes, is, e) = matrix_accepted m texts nodes is
   report_accepted (post input) texts a (nodes, is, best) = tree_accepted input texts nodes is
@@ -267,17 +274,20 @@ module _ (r : Reports) where
       (work_has_system input mine s ps with_term) ((plan, is_plan), tt)
   report_accepted (planning input format) texts a is =
       input_accepted input texts is.system (work_has_system input texts is.system is.positions is.with_term)
-  report_accepted (simulate input source s) texts a
+  report_accepted (simulate tasks source s) texts a
       (mine, text, rest, system, order, priority, split, is_system, is_order, is_priority, is) =
-      with_input input (source_file source ∷ priority_files (priority_file input) s.priority) texts mine
+      with_tasks tasks (source_file source ∷ priority_files (priority_file tasks) s.priority) texts mine
       (text ∷ rest) system split is_system (
         source_accepted source mine text order is_order,
-        priority_accepted input source s.priority mine text rest system order priority is_system is_priority,
+        priority_accepted tasks source s.priority mine text rest system order priority is_system is_priority,
       )
   report_accepted (demo made) texts a is = tt
   report_accepted (upgrade u) texts a (value, is, e) = upgrade_accepted u texts value is
-  report_accepted (spill input source bound) texts a (mine, text, s, order, split, is_system, is_order, is) =
+  report_accepted (spill (input_tasks input) source bound) texts a (mine, text, s, order, split, is_system, is_order, is) =
       with_input input (source_file source ∷ []) texts mine
+      (text ∷ []) s split is_system (source_accepted source mine text order is_order, tt)
+  report_accepted (spill (graph_tasks name) source bound) texts a (mine, text, s, order, split, is_system, is_order, is) =
+      with_tasks (graph_tasks name) (source_file source ∷ []) texts mine
       (text ∷ []) s split is_system (source_accepted source mine text order is_order, tt)
   report_accepted (segments input) texts a (ps, numbered, is, answer) = numbered_accepted input texts ps numbered is
   report_accepted (fronts m bound workers) texts a (rows, order, is, made) = ordered_accepted m texts rows order is

@@ -83,7 +83,7 @@ module _ (ended : Status) (reports : IsOfReports ended) where
   refused perm_file earlier text answer r at = refused_perm earlier text answer r at
   refused order_file earlier text answer r at = refused_file (codes "order") order_file_word (RefusesOrder text) text answer r at
   refused plan_file earlier text answer r at = refused_file (codes "plan") plan_word (RefusesPlan text) text answer r at
-  refused (priority_file input) earlier text answer (mine, one, system, split, is, r) at =
+  refused (priority_file tasks) earlier text answer (mine, one, system, split, is, r) at =
       refused_file (codes "priority") perm_word (RefusesPerm (length system.tasks) text) text answer r at
   refused plan_priority_file earlier text answer r at = refused_plan_priority earlier text answer r at
 
@@ -133,7 +133,7 @@ WhatAnswersSay =
     → IsAnswer request texts answer → Says request texts answer.status answer.text
 
 possible : (request : Request) → IsInRange request → IsPossible request
-possible (simulate input source simulation) range = range.0
+possible (simulate tasks source simulation) range = range.0
 possible (demo made) range = range
 possible request range = tt
 

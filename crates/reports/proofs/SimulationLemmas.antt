@@ -1,21 +1,21 @@
--- A simulation over the texts of the input, of the order and of the priority.
+-- A simulation over the texts of the tasks, of the order and of the priority.
 use Rattle.std.proofs.Common.{◌≡◌, ◌∙◌, ℕ, ◌≤◌, List, [], ◌∷◌, ◌++◌, Option, Some, None, length, sym, ap, subst, inl, arith, append_assoc}
-use Rattle.least_peak.specs.Problem.{system_of}
 use Rattle.reports.specs.Reports.{IsReport}
 use Rattle.judging.specs.Files.{Answer, IsFirstRefusal}
 use Rattle.reports.specs.Simulate.{IsPriorityFrom, IsSimulation, setting_of}
 use Rattle.judging.specs.Priorities.{IsOwnPriority}
 use Rattle.judging.specs.Told.{AreTold}
-use Rattle.judging.specs.Judged.{IsStop, IsOrderedOf, IsPriorityOf, IsRefusedRanking, order_tasks, own_priority, priority_beside}
-use Rattle.requests.specs.Request.{Input, OrderSource, Simulation, FileRole, NamedFile, simulate, input_files}
+use Rattle.judging.specs.Judged.{IsStop, AreOrderedOf, IsPriorityOf, IsRefusedRanking, order_tasks, own_priority, priority_beside}
+use Rattle.judging.specs.Judged.{system_of_tasks}
+use Rattle.requests.specs.Request.{TaskSource, OrderSource, Simulation, FileRole, NamedFile, simulate, task_files}
 use Rattle.requests.specs.Request.{source_file, priority_file, priority_files, files_of}
 use Rattle.judging.specs.declared.inputs.Priority.{Priority}
 use Rattle.judging.specs.declared.inputs.Priority.TheVariants as priorities
 use Rattle.judging.specs.declared.inputs.Order.{Order}
-use Rattle.judging.specs.declared.inputs.OrderedProblem.{OrderedProblem}
+use Rattle.judging.specs.declared.inputs.OrderedTasks.{OrderedTasks}
 use Rattle.judging.specs.declared.stop.Stop.{Stop}
 use Rattle.judging.proofs.StepLemmas.{over_both}
-use Rattle.judging.proofs.InputLemmas.{problem_has_system}
+use Rattle.judging.proofs.InputLemmas.{tasks_have_system}
 
 -- ---- the priority
 
@@ -38,25 +38,25 @@ priority_from source (Some name) n text (file ∷ more ∷ files) order priority
 
 -- ---- the files in turn
 
-module _ (told : List ℕ → Option (List ℕ)) (input : Input) (source : OrderSource) (s : Simulation) where
+module _ (told : List ℕ → Option (List ℕ)) (tasks : TaskSource) (source : OrderSource) (s : Simulation) where
   abbrev first : List NamedFile
-  first = input_files input ++ source_file source ∷ []
+  first = task_files tasks ++ source_file source ∷ []
 
   abbrev more : List NamedFile
-  more = priority_files (priority_file input) s.priority
+  more = priority_files (priority_file tasks) s.priority
 
-  whole : first ++ more ≡ files_of (simulate input source s)
-  whole = append_assoc (input_files input) (source_file source ∷ []) more
+  whole : first ++ more ≡ files_of (simulate tasks source s)
+  whole = append_assoc (task_files tasks) (source_file source ∷ []) more
 
   pub stop_of_all : (before after : List ℕ → ℕ) (e : Stop) → IsStop told before after (first ++ more) (IsFirstRefusal (first ++ more) []) e
-      → IsStop told before after (files_of (simulate input source s)) (IsFirstRefusal (files_of (simulate input source s)) []) e
+      → IsStop told before after (files_of (simulate tasks source s)) (IsFirstRefusal (files_of (simulate tasks source s)) []) e
   stop_of_all before after e = subst (λ (fs : List NamedFile). IsStop told before after fs (IsFirstRefusal fs []) e) whole
 
-  module _ (ordered : OrderedProblem) where
+  module _ (ordered : OrderedTasks) where
     pub ranking_refused : (name : Option (List ℕ)) (one two : List (List ℕ)) (answer : Answer)
-        → IsOrderedOf input source one ordered → AreTold told (priority_files (priority_file input) name) two
-        → IsRefusedRanking (length (system_of ordered.problem).tasks) two answer
-        → IsFirstRefusal (priority_files (priority_file input) name) one two answer
+        → AreOrderedOf tasks source one ordered → AreTold told (priority_files (priority_file tasks) name) two
+        → IsRefusedRanking (length (system_of_tasks ordered.tasks).tasks) two answer
+        → IsFirstRefusal (priority_files (priority_file tasks) name) one two answer
     ranking_refused None one [] answer is are refused = absurd refused
     ranking_refused None one (t ∷ two) answer is are refused = absurd are
     ranking_refused (Some name) one [] answer is are refused = absurd refused
@@ -64,26 +64,26 @@ module _ (told : List ℕ → Option (List ℕ)) (input : Input) (source : Order
         inl (
           is.mine,
           is.text,
-          system_of ordered.problem,
+          system_of_tasks ordered.tasks,
           is.texts_are,
-          problem_has_system input is.mine ordered.problem is.is_value,
+          tasks_have_system tasks is.mine ordered.tasks is.is_value,
           refused,
         )
 
-    pub simulated : (are_ordered : (texts : List (List ℕ)) → AreTold told first texts → IsOrderedOf input source texts ordered)
+    pub simulated : (are_ordered : (texts : List (List ℕ)) → AreTold told first texts → AreOrderedOf tasks source texts ordered)
         (priority : Priority) (answer : Answer)
         → ((texts : List (List ℕ)) → AreTold told more texts
-        → IsPriorityOf s.priority (length (system_of ordered.problem).tasks) texts priority)
-        → IsSimulation (setting_of (system_of ordered.problem) (order_tasks ordered.order) s)
+        → IsPriorityOf s.priority (length (system_of_tasks ordered.tasks).tasks) texts priority)
+        → IsSimulation (setting_of (system_of_tasks ordered.tasks) (order_tasks ordered.order) s)
         (priority_beside ordered.order priority) answer
-        → (texts : List (List ℕ)) → AreTold told (files_of (simulate input source s)) texts
-        → IsReport (simulate input source s) texts answer
+        → (texts : List (List ℕ)) → AreTold told (files_of (simulate tasks source s)) texts
+        → IsReport (simulate tasks source s) texts answer
     simulated are_ordered priority answer is_priority is texts are =
-        over_both told first more (λ ts. IsReport (simulate input source s) ts answer)
+        over_both told first more (λ ts. IsReport (simulate tasks source s) ts answer)
         (λ one two are_one are_two.
         let work = are_ordered one are_one in
         let split = ap (λ ts. ts ++ two) work.texts_are ∙ append_assoc work.mine (work.text ∷ []) two in
-        let system = system_of ordered.problem in (
+        let system = system_of_tasks ordered.tasks in (
           work.mine,
           work.text,
           two,
@@ -91,7 +91,7 @@ module _ (told : List ℕ → Option (List ℕ)) (input : Input) (source : Order
           order_tasks ordered.order,
           priority_beside ordered.order priority,
           split,
-          problem_has_system input work.mine ordered.problem work.is_value,
+          tasks_have_system tasks work.mine ordered.tasks work.is_value,
           work.is_order.0,
           priority_from source s.priority
               (length system.tasks) work.text two ordered.order priority work.is_order.1 (is_priority two are_two),

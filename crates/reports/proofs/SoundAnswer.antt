@@ -8,7 +8,7 @@ use Rattle.claim_check.specs.Accepted.{IsAccepted}
 use Rattle.claim_check.specs.declared.verdict.Verdict.TheVariants.{Yes, No}
 use Rattle.limits.specs.Limits.{most_bytes}
 use Rattle.mp_system.specs.Renaming.{IsRenamed}
-use Rattle.mp_system.specs.System.{TaskSystem, IsSystem}
+use Rattle.mp_system.specs.System.{TaskSystem}
 use Rattle.mp_system.specs.Traversal.{IsLeast}
 use Rattle.plans.specs.Plan.{PlanValue, IsPlan}
 use Rattle.plan_files.specs.PlanFile.{ReadsPlan}
@@ -25,11 +25,11 @@ use Rattle.trees.specs.TreeTerm.{forest_positions}
 use Rattle.reports.specs.Check.{IsCheckOf, IsCertified, yes_line}
 use Rattle.judging.specs.Files.{Answer, IsPlanFile, IsTreeOf, IsSystemWithTerm}
 use Rattle.reports.specs.Plan.{IsPlanOf, IsBestPlan, IsPrintedAs, plan_printed}
-use Rattle.requests.specs.Request.{TreeInput, Input, tree_input, workflow_named, OrderSource, PlanFormat, as_file, as_json, Simulation}
+use Rattle.requests.specs.Request.{TreeInput, Input, TaskSource, tree_input, workflow_named, OrderSource, PlanFormat, as_file, as_json, Simulation}
 use Rattle.reports.specs.Simulate.{IsSimulation, IsSimulationOf, IsSimulated, IsPrintedRun}
 use Rattle.judging.specs.declared.status.Status.TheVariants.{Done}
 use Rattle.judging.proofs.InputLemmas.{work_has_system}
-use Rattle.reports.proofs.OneInput.{Systems, one_term}
+use Rattle.reports.proofs.OneInput.{IsRunnable, TaskSystems, one_term}
 
 -- ---- plans
 
@@ -113,7 +113,7 @@ module _
 -- ---- runs
 
 module _
-    (systems : Systems)
+    (systems : TaskSystems)
     (legal : (c : Setting) (priority : List ℕ) (events : List Event)
     → IsSchedule c priority (first_moment c) events → AreLegal c (start_state c) events)
     (each_once : (c : Setting) → IsSetting c → (priority : List ℕ) (events : List Event)
@@ -121,12 +121,12 @@ module _
     (within : (c : Setting) → IsSetting c → (priority : List ℕ) (before rest : List Event)
     → IsSchedule c priority (first_moment c) (before ++ rest)
     → IsWithinBound c (state_after_all (start_state c) before)) where
-  is_run : (c : Setting) (priority : List ℕ) (answer : Answer) → IsSystem c.system → 1 ≤ c.workers
+  is_run : (c : Setting) (priority : List ℕ) (answer : Answer) → IsRunnable c.system → 1 ≤ c.workers
       → IsSimulation c priority answer → answer.status ≡ Done → IsPrintedRun c answer.text
   is_run c priority answer system workers (inl (place, kind, fault, e)) done = absurd (cc (sym (ap (λ (a : Answer). a.status) e) ∙ done))
   is_run c priority answer system workers (inr (inl (traversal, less, e))) done = absurd (cc (sym (ap (λ (a : Answer). a.status) e) ∙ done))
   is_run c priority answer system workers (inr (inr (events, traversal, bound, scheduled, e))) done =
-      let setting : IsSetting c = record { system = system; traversal = traversal; bound = bound; workers = workers } in
+      let setting : IsSetting c = record { system = system c.order traversal; traversal = traversal; bound = bound; workers = workers } in
       record {
         traversal = traversal;
         peak_within = bound;
@@ -138,10 +138,10 @@ module _
         printed_is = ap (λ (a : Answer). a.text) e;
       }
 
-  pub simulated : (input : Input) (source : OrderSource) (s : Simulation) (texts : List (List ℕ)) (answer : Answer)
-      → 1 ≤ s.workers → IsSimulationOf input source s texts answer
-      → answer.status ≡ Done → IsSimulated input source s texts answer.text
-  simulated input source s texts answer workers
+  pub simulated : (tasks : TaskSource) (source : OrderSource) (s : Simulation) (texts : List (List ℕ)) (answer : Answer)
+      → 1 ≤ s.workers → IsSimulationOf tasks source s texts answer
+      → answer.status ≡ Done → IsSimulated tasks source s texts answer.text
+  simulated tasks source s texts answer workers
       (mine, text, rest, system, order, priority, split, is_system, is_order, is_priority, is) done = record {
         mine = mine;
         text = text;
@@ -152,5 +152,5 @@ module _
         order = order;
         is_order = is_order;
         run = is_run (record { system = system; order = order; bound = s.bound; workers = s.workers }) priority answer
-            (systems input mine system system is_system is_system).1 workers is done;
+            (systems tasks mine system system is_system is_system).1 workers is done;
       }

@@ -10,9 +10,16 @@ use Rattle.std.proofs.lemmas.List.FromFn.{length-enumerate_from, get_or-enumerat
 use Rattle.std.proofs.lemmas.List.Sums.{sum_by-cons}
 use Rattle.mp_text.specs.Report.{line_text, text_of_lines}
 use Rattle.spill_plan.specs.SpillPlans.{sum_from, most_among, plan_by_amounts}
-use Rattle.judging.specs.Files.{Answer}
-use Rattle.requests.specs.Request.{Input, OrderSource}
-use Rattle.reports.specs.Spill.{spilled_items, amount_line, IsSpillOf, IsSpilled}
+use Rattle.least_peak.specs.Problem.{system_of}
+use Rattle.judging.specs.Files.{Answer, IsOrderFrom}
+use Rattle.judging.specs.Judged.{AreTasksOf}
+use Rattle.judging.specs.declared.inputs.Tasks.{Tasks}
+use Rattle.judging.specs.declared.inputs.Tasks.TheVariants as read
+use Rattle.judging.proofs.InputLemmas.{problem_has_system}
+use Rattle.requests.specs.Request.{Input, TaskSource, input_tasks, graph_tasks, OrderSource}
+use Rattle.reports.specs.Spill.{spilled_items, amount_line, IsItemSpillOf, IsSpilled}
+use Rattle.reports.specs.SpilledGaps.{IsSpillOf, IsSpillAnswerOf, AreSpilled}
+use Rattle.reports.proofs.GapLemmas.{gaps_spilled}
 use Rattle.judging.specs.declared.status.Status.TheVariants.{Done}
 use Rattle.spill_plan.proofs.LeastAmounts.{plan_volume-le}
 
@@ -93,7 +100,7 @@ at_most false a = omega arith
 -- ---- what is said of a spill that is done
 
 pub spilled : (input : Input) (source : OrderSource) (bound : ℕ) (texts : List (List ℕ)) (answer : Answer)
-    → IsSpillOf input source bound texts answer → answer.status ≡ Done → IsSpilled input source bound texts answer.text
+    → IsItemSpillOf input source bound texts answer → answer.status ≡ Done → IsSpilled input source bound texts answer.text
 spilled input source bound texts answer (mine, text, system, order, split, is_system, is_order, inl (place, kind, fault, e)) done =
     absurd (cc (sym (ap (λ (a : Answer). a.status) e) ∙ done))
 spilled input source bound texts answer
@@ -120,3 +127,22 @@ spilled input source bound texts answer
       least = is.least;
       printed_is = ap (λ (a : Answer). a.text) e;
     }
+
+pub spilled_tasks : (tasks : TaskSource) (source : OrderSource) (bound : ℕ) (texts : List (List ℕ)) (answer : Answer)
+    → IsSpillOf tasks source bound texts answer → answer.status ≡ Done → AreSpilled tasks source bound texts answer.text
+spilled_tasks (input_tasks input) source bound texts answer is done = spilled input source bound texts answer is done
+spilled_tasks (graph_tasks name) source bound texts answer is done = gaps_spilled (graph_tasks name) source bound texts answer is done
+
+-- ---- what is told of tasks is what is told of their files
+
+pub spill_told : (tasks : TaskSource) (source : OrderSource) (bound : ℕ) (texts mine : List (List ℕ)) (text : List ℕ) (value : Tasks)
+    (order : List ℕ) (answer : Answer) → texts ≡ mine ++ text ∷ [] → AreTasksOf tasks mine value → IsOrderFrom source text order
+    → IsSpillAnswerOf value order bound answer → IsSpillOf tasks source bound texts answer
+spill_told (input_tasks input) source bound texts mine text (read.Problem problem) order answer split is is_order told =
+    (mine, text, system_of problem, order, split, problem_has_system input mine problem is, is_order, told)
+spill_told (input_tasks input) source bound texts mine text (read.Graph system) order answer split is is_order told = absurd is
+spill_told (graph_tasks name) source bound texts [] text value order answer split is is_order told = absurd is
+spill_told (graph_tasks name) source bound texts (one ∷ []) text (read.Problem problem) order answer split is is_order told = absurd is
+spill_told (graph_tasks name) source bound texts (one ∷ []) text (read.Graph system) order answer split is is_order told =
+    (one ∷ [], text, system, order, split, is, is_order, told)
+spill_told (graph_tasks name) source bound texts (one ∷ two ∷ more) text value order answer split is is_order told = absurd is

@@ -7,6 +7,7 @@ pub mod Simulate
 pub mod Demo
 pub mod Upgrade
 pub mod Spill
+pub mod SpilledGaps
 pub mod Segments
 pub mod Fronts
 pub mod Reduce

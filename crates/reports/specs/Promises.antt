@@ -9,7 +9,7 @@ use Rattle.reports.specs.Plan.{IsBestPlan}
 use Rattle.reports.specs.Simulate.{IsSimulated}
 use Rattle.reports.specs.Demo.{IsShown}
 use Rattle.reports.specs.Upgrade.{IsUpgraded}
-use Rattle.reports.specs.Spill.{IsSpilled}
+use Rattle.reports.specs.SpilledGaps.{AreSpilled}
 use Rattle.reports.specs.Segments.{IsReached}
 use Rattle.reports.specs.Fronts.{IsFactored}
 use Rattle.reports.specs.Reduce.{IsReduced, HasIrreducibleRest}
@@ -34,17 +34,17 @@ Says (check input plan workers) texts ended printed = ended ≡ status.Done → 
 -- where a plan was made, what was printed is a plan file, or the JSON of its plan: the order is a traversal of the input's system, its
 -- peak is the one that the plan states, no traversal has a lower one, and `check` says yes to the file
 Says (planning input format) texts ended printed = ended ≡ status.Done → IsBestPlan input format texts printed
--- where a run was simulated to its end, its events are one activation, one start and one finish of each task of the input's system, and
+-- where a run was simulated to its end, its events are one activation, one start and one finish of each of the tasks, and
 -- memory stayed within the bound, which is at least the peak of the order
-Says (simulate input source simulation) texts ended printed = ended ≡ status.Done → IsSimulated input source simulation texts printed
+Says (simulate tasks source simulation) texts ended printed = ended ≡ status.Done → IsSimulated tasks source simulation texts printed
 -- where a demo was made, what was printed is its summary: the checker says yes, and no traversal of the made system has a lower peak
 -- than the one that was printed
 Says (demo made) texts ended printed = ended ≡ status.Done → IsShown made printed
 -- where a file was upgraded, what was printed is a file of version 2 that is read as what was upgraded
 Says (upgrade file) texts ended printed = ended ≡ status.Done → IsUpgraded file texts printed
--- where amounts were printed, they are a spill plan of the input's system, the order and the bound, whose volume is the printed one,
--- and no spill plan of these has a lower one
-Says (spill input source bound) texts ended printed = ended ≡ status.Done → IsSpilled input source bound texts printed
+-- where amounts were printed, of the items of an input or of the gaps between the uses of a graph's items, they are a spill plan of the
+-- system, the order and the bound, whose volume is the printed one, and no spill plan of these has a lower one
+Says (spill tasks source bound) texts ended printed = ended ≡ status.Done → AreSpilled tasks source bound texts printed
 -- where staircases were printed, of every printed pair the level is the memory of a state that is reached within the bound, and none
 -- that is reached within it has a lower one; so it is for every bound
 Says (segments input) texts ended printed = ended ≡ status.Done → IsReached input texts printed
@@ -61,6 +61,6 @@ Says (reduce name) texts ended printed =
 
 -- what is asked of a request for that: a run has a worker, and an input that is to be made can be
 abbrev pub IsPossible : Request → Type 0
-IsPossible (simulate input source simulation) = 1 ≤ simulation.workers
+IsPossible (simulate tasks source simulation) = 1 ≤ simulation.workers
 IsPossible (demo made) = IsMakeable made
 IsPossible request = Unit {0}

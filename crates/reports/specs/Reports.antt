@@ -13,7 +13,7 @@ use Rattle.reports.specs.Demo.{IsDemoOf}
 use Rattle.reports.specs.Tree.{tree_answer}
 use Rattle.reports.specs.Post.{IsPost}
 use Rattle.reports.specs.Upgrade.{IsUpgradeOf}
-use Rattle.reports.specs.Spill.{IsSpillOf}
+use Rattle.reports.specs.SpilledGaps.{IsSpillOf}
 use Rattle.reports.specs.Segments.{IsSegmentsOf}
 use Rattle.reports.specs.Reduce.{IsReduceOf}
 use Rattle.reports.specs.Fronts.{IsFrontsOf}
@@ -25,10 +25,10 @@ IsReport (tree m) texts answer = (nodes : List Node) × IsMatrixTree m texts nod
 IsReport (post input) texts answer = (nodes : List Node) × IsTreeOf input texts nodes × IsPost nodes answer
 IsReport (check input plan workers) texts answer = IsCheckOf input texts answer
 IsReport (planning input format) texts answer = IsPlanOf input format texts answer
-IsReport (simulate input source s) texts answer = IsSimulationOf input source s texts answer
+IsReport (simulate tasks source s) texts answer = IsSimulationOf tasks source s texts answer
 IsReport (demo made) texts answer = IsDemoOf made answer
 IsReport (upgrade u) texts answer = IsUpgradeOf u texts answer
-IsReport (spill input source bound) texts answer = IsSpillOf input source bound texts answer
+IsReport (spill tasks source bound) texts answer = IsSpillOf tasks source bound texts answer
 IsReport (segments input) texts answer = IsSegmentsOf input texts answer
 IsReport (fronts m bound workers) texts answer = IsFrontsOf m bound workers texts answer
 IsReport (reduce name) texts answer = IsReduceOf texts answer
@@ -37,7 +37,7 @@ IsReport (reduce name) texts answer = IsReduceOf texts answer
 -- spill plan of least volume, and `reduce` any term of a graph or any irreducible rest
 abbrev pub IsDecided : Request → Type 0
 IsDecided (planning input format) = ⊥
-IsDecided (spill input source bound) = ⊥
+IsDecided (spill tasks source bound) = ⊥
 IsDecided (reduce name) = ⊥
 IsDecided request = Unit {0}
 

@@ -47,9 +47,9 @@ IsSpillAnswer system order bound answer =
     ⊎ ((volume : ℕ) × (amounts : List ℕ) × IsTraversal system order × IsLeastSpill system order bound amounts volume
     × (answer ≡ spill_answer volume amounts)))
 
--- a spill: the texts of the input's files, and that of the order
-abbrev pub IsSpillOf : Input → OrderSource → ℕ → List (List ℕ) → Answer → Type 0
-IsSpillOf input source bound texts answer =
+-- a spill of an input: the texts of its files, and that of the order
+abbrev pub IsItemSpillOf : Input → OrderSource → ℕ → List (List ℕ) → Answer → Type 0
+IsItemSpillOf input source bound texts answer =
     (mine : List (List ℕ)) × (text : List ℕ) × (system : TaskSystem) × (numbers : List ℕ)
     × (texts ≡ mine ++ text ∷ []) × IsSystemOf input mine system × IsOrderFrom source text numbers
     × IsSpillAnswer system numbers bound answer

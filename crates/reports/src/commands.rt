@@ -3,6 +3,7 @@
 pub mod check;
 pub mod demo;
 pub mod fronts;
+pub mod gap_report;
 pub mod plan;
 pub mod post;
 pub mod reduce;

@@ -4,6 +4,8 @@ ghost use Rattle.std.specs.Prelude.{◌≡◌, ◌≤◌, ℕ, List, [], ◌∷�
 ghost use Rattle.patterns.specs.Pattern.{IsPattern};
 ghost use Rattle.mp_system.specs.System.{IsSystem, TaskSystem};
 ghost use Rattle.sp_terms.specs.declared.position.Position.{Position};
+ghost use Rattle.shared_systems.specs.Bounds.{IsSharedSystem};
+ghost use Rattle.shared_systems.specs.SharedTraversal.{IsSharedTraversal};
 ghost use Rattle.trees.specs.Tree.{IsTree};
 ghost use Rattle.trees.specs.declared.node.Node.{Node};
 ghost use Rattle.reports.specs.Reports.{IsAnswer, IsDecided};
@@ -43,7 +45,8 @@ use trees::laws as tree_laws;
 use workflow_files::laws as workflow_laws;
 
 // The texts of an input are of one matrix, one tree, one system and one term, within the limits, and they are as many as its files; its
-// positions have one numbering. Those of tasks are of one system, and as many as their files.
+// positions have one numbering. Those of tasks are of one system, which is within the limits where it has a traversal, and as many as their
+// files.
 fn one_input()
     ensures matrix { (o : Ordering) (texts rows other : List (List ℕ)) (order same : List ℕ) → IsOrderedMatrix o texts rows order →
         IsOrderedMatrix o texts other same → (rows ≡ other) × (order ≡ same) × IsPattern rows × (length order ≡ length rows) }
@@ -53,7 +56,8 @@ fn one_input()
         → IsSystemOf input texts one → IsSystemOf input texts two →
         (one ≡ two) × IsSystem one × (length texts ≡ length (input_files input)) }
     ensures tasks { (source : TaskSource) (texts : List (List ℕ)) (one two : SharedTaskSystem)
-        → IsTaskSystemOf source texts one → IsTaskSystemOf source texts two → (one ≡ two) × (length texts ≡ length (task_files source)) }
+        → IsTaskSystemOf source texts one → IsTaskSystemOf source texts two →
+        (one ≡ two) × ((order : List ℕ) → IsSharedTraversal one order → IsSharedSystem one) × (length texts ≡ length (task_files source)) }
     ensures term { (input : Input) (texts : List (List ℕ)) (system same : TaskSystem) (one two : List Position) →
         IsSystemWithTerm input texts system one → IsSystemWithTerm input texts same two → one ≡ two }
     ensures numbered { (input : Input) (texts : List (List ℕ)) (one two : List Position) (numbered same : List ℕ) →
@@ -74,6 +78,7 @@ fn one_input()
     workflow_laws::read_law();
     term_laws::terms_law();
     shared_graph_laws::exactly_one();
+    shared_graph_laws::read_law();
 }
 
 // A file is accepted or refused, never both, and refused with one answer.

@@ -85,14 +85,14 @@ pub data Request : Type 0 where
   check : Input → List ℕ → ℕ → Request
   -- a traversal of least peak, with its certificate
   planning : Input → PlanFormat → Request
-  -- the run of the input's system on several workers within a bound, its tasks activated in an order
-  simulate : Input → OrderSource → Simulation → Request
+  -- the run of tasks on several workers within a bound, activated in an order
+  simulate : TaskSource → OrderSource → Simulation → Request
   -- an input that is made, its plan, and whether the plan is accepted
   demo : Demo → Request
   -- a file, as version 2
   upgrade : Upgrade → Request
-  -- what must go to disk where an order of the input's tasks runs within a bound
-  spill : Input → OrderSource → ℕ → Request
+  -- what must go to disk where an order of tasks runs within a bound
+  spill : TaskSource → OrderSource → ℕ → Request
   -- how low memory can come in each subtree of a tree, or at each position of a workflow
   segments : Input → Request
   -- the rows of every front of a matrix, made within a bound on the rows that are held, by so many workers
@@ -215,7 +215,7 @@ IsMakeable (demos.Grid rows cols) = (1 ≤ rows) × (1 ≤ cols) × (rows * cols
 
 abbrev pub IsInRange : Request → Type 0
 IsInRange (check input plan workers) = AreWorkers workers
-IsInRange (simulate input source s) = AreWorkers s.workers
+IsInRange (simulate tasks source s) = AreWorkers s.workers
 IsInRange (demo made) = IsMakeable made
 IsInRange (fronts m bound workers) = AreWorkers workers
 IsInRange request = Unit {0}
@@ -238,8 +238,8 @@ pub data FileRole : Type 0 where
   perm_file : FileRole
   order_file : FileRole
   plan_file : FileRole
-  -- a priority ranks the tasks of an input, or those of a plan
-  priority_file : Input → FileRole
+  -- a priority ranks the tasks of a source, or those of a plan
+  priority_file : TaskSource → FileRole
   plan_priority_file : FileRole
 
 pub record NamedFile : Type 0 where
@@ -291,10 +291,10 @@ files_of (tree m) = matrix_files m
 files_of (post input) = tree_input_files input
 files_of (check input plan workers) = input_files input ++ source_file (plan_named plan) ∷ []
 files_of (planning input format) = input_files input
-files_of (simulate input source s) = input_files input ++ source_file source ∷ priority_files (priority_file input) s.priority
+files_of (simulate tasks source s) = task_files tasks ++ source_file source ∷ priority_files (priority_file tasks) s.priority
 files_of (demo made) = []
 files_of (upgrade u) = upgrade_files u
-files_of (spill input source bound) = input_files input ++ source_file source ∷ []
+files_of (spill tasks source bound) = task_files tasks ++ source_file source ∷ []
 files_of (segments input) = input_files input
 files_of (fronts m bound workers) = ordered_matrix_files m
 files_of (reduce name) = record { role = graph_file; name = name } ∷ []

@@ -101,27 +101,27 @@ replay_of options =
 abbrev pub segments_of : List Given → Option Request
 segments_of options = option_map segments (input_of options)
 
--- `simulate`, one input, `--order NAME` or `--plan NAME`, `--bound B` and `--workers N`, and `--priority NAME` if it is given
+-- `simulate`, one input or task graph, `--order NAME` or `--plan NAME`, `--bound B` and `--workers N`, and `--priority NAME` if it is given
 abbrev pub simulate_of : List Given → Option Request
 simulate_of options =
-    option_and_then (λ input.
+    option_and_then (λ tasks.
     option_and_then (λ source.
     option_and_then (λ bound.
     option_map (λ workers.
-    simulate input source (record { bound = bound; workers = workers; priority = value_of (codes "priority") options }))
+    simulate tasks source (record { bound = bound; workers = workers; priority = value_of (codes "priority") options }))
     (number_up_to most_workers (value_of (codes "workers") options)))
     (number_given (value_of (codes "bound") options)))
     (source_of (value_of (codes "order") options) (value_of (codes "plan") options)))
-    (input_of options)
+    (tasks_of options)
 
--- `spill`, one input, `--order NAME` or `--plan NAME`, and `--bound B`
+-- `spill`, one input or task graph, `--order NAME` or `--plan NAME`, and `--bound B`
 abbrev pub spill_of : List Given → Option Request
 spill_of options =
-    option_and_then (λ input.
+    option_and_then (λ tasks.
     option_and_then (λ source.
-    option_map (spill input source) (number_given (value_of (codes "bound") options)))
+    option_map (spill tasks source) (number_given (value_of (codes "bound") options)))
     (source_of (value_of (codes "order") options) (value_of (codes "plan") options)))
-    (input_of options)
+    (tasks_of options)
 
 -- `tree` and a matrix
 abbrev pub tree_request_of : List Given → Option Request
@@ -159,7 +159,7 @@ commands =
     ∷ record { name = codes "plan"; options = codes "print" ∷ input_names; asks = plan_of }
     ∷ record {
       name = codes "simulate";
-      options = codes "order" ∷ codes "plan" ∷ codes "bound" ∷ codes "workers" ∷ codes "priority" ∷ input_names;
+      options = codes "order" ∷ codes "plan" ∷ codes "bound" ∷ codes "workers" ∷ codes "priority" ∷ task_names;
       asks = simulate_of;
     }
     ∷ record {
@@ -172,7 +172,7 @@ commands =
       options = codes "tree" ∷ codes "workflow" ∷ codes "graph" ∷ codes "plan" ∷ codes "priority" ∷ [];
       asks = upgrade_of;
     }
-    ∷ record { name = codes "spill"; options = codes "order" ∷ codes "plan" ∷ codes "bound" ∷ input_names; asks = spill_of }
+    ∷ record { name = codes "spill"; options = codes "order" ∷ codes "plan" ∷ codes "bound" ∷ task_names; asks = spill_of }
     ∷ record { name = codes "segments"; options = input_names; asks = segments_of }
     ∷ record {
       name = codes "fronts";

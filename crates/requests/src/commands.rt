@@ -47,7 +47,7 @@ static COMMANDS: [Shape; 12] = [
     Shape {
         name: "simulate",
         options: &[
-            &["order", "plan", "bound", "workers", "priority"],
+            &["order", "plan", "bound", "workers", "priority", "graph"],
             INPUT,
             MATRIX_OPTIONS,
         ],
@@ -62,7 +62,7 @@ static COMMANDS: [Shape; 12] = [
     },
     Shape {
         name: "spill",
-        options: &[&["order", "plan", "bound"], INPUT, MATRIX_OPTIONS],
+        options: &[&["order", "plan", "bound", "graph"], INPUT, MATRIX_OPTIONS],
     },
     Shape {
         name: "segments",

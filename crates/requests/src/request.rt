@@ -95,7 +95,7 @@ pub enum Request<'a> {
     Check(Check<'a>),
     /// A traversal of least peak, with its certificate.
     Plan(Input<'a>, PlanFormat),
-    /// The run of the input's system on several workers within a bound, its tasks activated in the order.
+    /// The run of tasks on several workers within a bound, activated in the order.
     Simulate(Simulation<'a>),
     /// An input that is made, its plan, and whether the plan is accepted.
     Demo(Demo),

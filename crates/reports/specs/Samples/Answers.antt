@@ -22,7 +22,7 @@ use Rattle.claim_check.specs.declared.verdict.Verdict.TheVariants.{Yes, No}
 use Rattle.sp_cuts.specs.Stairs.{BothSteps}
 use Rattle.assembly_tree.specs.Samples.{node}
 use Rattle.activation.specs.Machine.{phase_in, with_phase}
-use Rattle.activation.specs.Samples.{setting, wide}
+use Rattle.activation.specs.Samples.{setting, wide, fan}
 use Rattle.judging.specs.declared.status.Status.TheVariants as status
 use Rattle.requests.specs.Request.{Request, Input, check, reduce, upgrade, tree_upgrade, as_json}
 use Rattle.judging.specs.Files.{Answer, format_refused, limit_refused, order_refused, bound_refused}
@@ -33,6 +33,7 @@ use Rattle.reports.specs.Check.{verdict_answer, IsCheck, IsCertified}
 use Rattle.reports.specs.Plan.{plan_answer}
 use Rattle.reports.specs.Simulate.{simulation_answer, setting_of, IsSimulation}
 use Rattle.reports.specs.Spill.{spill_answer, working_set_refused}
+use Rattle.reports.specs.SpilledGaps.{gap_answer}
 use Rattle.reports.specs.Segments.{no_steps, report_rows, segments_answer}
 use Rattle.judging.specs.Numbered.{node_positions}
 use Rattle.reports.specs.Reduce.{rest_answer, HasIrreducibleRest}
@@ -43,7 +44,7 @@ use Rattle.reports.specs.Reports.{IsAnswer}
 use Rattle.reports.specs.Promises.{Says, done_answer as done}
 use Rattle.reports.specs.Clauses.{IsAnswered}
 use Rattle.reports.specs.Samples.Graphs.{bridge}
-use Rattle.reports.specs.Samples.Plans.{system, positions, plan, claims, is_not_cut, nothing_is_a_traversal, yes_to_the_plan, another_peak}
+use Rattle.reports.specs.Samples.Plans.{system, positions, plan, claims, is_not_cut, yes_to_the_plan, another_peak}
 use Rattle.reports.specs.Samples.Plans.{nothing_is_a_shared_traversal}
 use Rattle.shared_systems.specs.OneReader.{shared_of}
 
@@ -87,6 +88,11 @@ run_lines = refl
 pub spill_lines : spill_answer 4 (0 ∷ 4 ∷ 0 ∷ 0 ∷ 0 ∷ []) ≡ done (codes "volume 4\nitems 1\n2 4\nend\n")
 unfolding digits
 spill_lines = refl
+
+-- 3 of the first item while it waits for task 3, of the gaps of a system in which three tasks read it
+pub gap_lines_of_a_fan : gap_answer fan 3 (0 ∷ 3 ∷ 0 ∷ 0 ∷ 0 ∷ 0 ∷ 0 ∷ []) ≡ done (codes "volume 3\ngaps 1\n1 3 3\nend\n")
+unfolding digits
+gap_lines_of_a_fan = refl
 
 -- a node that needs 9 and leaves 7: back from its end memory comes down to 0 within 9
 abbrev pub one_term : List Position
@@ -153,8 +159,9 @@ checked = (Yes 3, yes_to_the_plan, refl)
 pub checked_with_another_peak : IsCheck system positions (plan claims [] 4) (verdict_answer (No (objections.Peak 3 4)))
 checked_with_another_peak = (No (objections.Peak 3 4), another_peak, refl)
 
-pub simulated_within_2 : IsSimulation (setting_of system [] (record { bound = 2; workers = 1; priority = None })) [] (bound_refused 2 3)
-simulated_within_2 = inr (inl (nothing_is_a_traversal, lit< tt, refl))
+pub simulated_within_2 :
+    IsSimulation (setting_of (shared_of system) [] (record { bound = 2; workers = 1; priority = None })) [] (bound_refused 2 3)
+simulated_within_2 = inr (inl (nothing_is_a_shared_traversal, lit< tt, refl))
 
 -- ---- a whole answer: of `upgrade --tree t`, where `t` is a tree file of version 3, of which there is none
 

@@ -62,7 +62,10 @@ unfolding tokens_of
 plan_asked = refl
 
 pub simulate_asked : asked (codes "simulate --tree t --order o --bound 22 --workers 2 --priority r")
-    ≡ Some (simulate a_tree (order_named (codes "o")) (record { bound = 22; workers = 2; priority = Some (codes "r") }))
+    ∷ asked (codes "simulate --graph g --order o --bound 9 --workers 2") ∷ asked (codes "simulate --graph g --tree t --order o --bound 9 --workers 2")
+    ∷ []
+    ≡ Some (simulate (input_tasks a_tree) (order_named (codes "o")) (record { bound = 22; workers = 2; priority = Some (codes "r") }))
+    ∷ Some (simulate (graph_tasks (codes "g")) (order_named (codes "o")) (record { bound = 9; workers = 2; priority = None })) ∷ None ∷ []
 unfolding tokens_of number_of number_from
 simulate_asked = refl
 
@@ -79,7 +82,8 @@ pub upgrade_asked :
 unfolding tokens_of
 upgrade_asked = refl
 
-pub spill_asked : asked (codes "spill --tree t --order o --bound 11") ≡ Some (spill a_tree (order_named (codes "o")) 11)
+pub spill_asked : asked (codes "spill --tree t --order o --bound 11") ∷ asked (codes "spill --graph g --plan p --bound 11") ∷ []
+    ≡ Some (spill (input_tasks a_tree) (order_named (codes "o")) 11) ∷ Some (spill (graph_tasks (codes "g")) (plan_named (codes "p")) 11) ∷ []
 unfolding tokens_of number_of number_from
 spill_asked = refl
 
@@ -127,8 +131,8 @@ abbrev pub file : FileRole → List ℕ → NamedFile
 file role name = record { role = role; name = name }
 
 pub files_of_a_run :
-    files_of (simulate a_tree (plan_named (codes "p")) (record { bound = 22; workers = 2; priority = Some (codes "r") }))
-    ≡ file tree_file (codes "t") ∷ file plan_file (codes "p") ∷ file (priority_file a_tree) (codes "r") ∷ []
+    files_of (simulate (input_tasks a_tree) (plan_named (codes "p")) (record { bound = 22; workers = 2; priority = Some (codes "r") }))
+    ≡ file tree_file (codes "t") ∷ file plan_file (codes "p") ∷ file (priority_file (input_tasks a_tree)) (codes "r") ∷ []
 files_of_a_run = refl
 
 pub files_of_others :

@@ -1,21 +1,20 @@
-//! `simulate`: the run of an input's tasks on several workers under a bound on memory.
+//! `simulate`: the run of tasks on several workers under a bound on memory.
 
 ghost use Rattle.std.specs.Prelude.{◌≡◌, ◌≤◌, ◌++◌, ℕ, List, IfOk, OnOk, IsTrue, length, map};
 ghost use Rattle.activation.specs.Schedule.{HoldsEach};
-ghost use Rattle.least_peak.specs.Problem.{system_of};
-ghost use Rattle.mp_system.specs.Traversal.{IsTraversal};
+ghost use Rattle.shared_systems.specs.SharedTraversal.{IsSharedTraversal};
 ghost use Rattle.mp_text.specs.Report.{is_token, is_line_start, line_text, text_of_lines};
 ghost use Rattle.reports.specs.Simulate.{IsSimulation, event_word as event_text, event_line, report_lines};
-ghost use Rattle.judging.specs.Judged.{IsRanking, priority_beside, order_tasks};
+ghost use Rattle.judging.specs.Judged.{IsRanking, priority_beside, order_tasks, system_of_tasks};
 ghost use Rattle.reports.specs.Reported.{IsReported};
 ghost use Rattle.judging.specs.Pages.{answer_of};
 ghost use Rattle.requests.specs.Request.{AreWorkers, simulate as simulation};
-ghost use Rattle.requests.specs.RequestViews.{input_view, source_view, simulation_view};
+ghost use Rattle.requests.specs.RequestViews.{tasks_view, source_view, simulation_view};
 ghost use Rattle.judging.specs.declared.status.Status.TheVariants.{Done};
 
 use activation::{CoreRefusal, Event, EventKind, Simulator, Trace};
 use judging::{
-    OrderedProblem, Page, PageKind, Priority, Stop, bound_page, judge_ordered, judge_priority,
+    OrderedTasks, Page, PageKind, Priority, Stop, bound_page, judge_ordered_tasks, judge_priority,
     order_page, print_count, print_end,
 };
 use mp_outside::Files;
@@ -81,11 +80,11 @@ fn trace_page(alloc: Global, trace: &Trace) -> Result<Page, AllocError>
 // ---- the run
 
 // The priority of a run of these tasks, each of which stands in it once.
-fn chosen<'a>(ordered: &'a OrderedProblem, priority: &'a Priority) -> &'a [u32]
-    requires { IsRanking (length (system_of ordered.now.problem).tasks) priority.now }
+fn chosen<'a>(ordered: &'a OrderedTasks, priority: &'a Priority) -> &'a [u32]
+    requires { IsRanking (length (system_of_tasks ordered.now.tasks).tasks) priority.now }
     ensures value { result.now ≡ priority_beside ordered.now.order priority.now }
-    ensures each { IsTraversal (system_of ordered.now.problem) (order_tasks ordered.now.order) →
-        HoldsEach (system_of ordered.now.problem) result.now }
+    ensures each { IsSharedTraversal (system_of_tasks ordered.now.tasks) (order_tasks ordered.now.order) →
+        HoldsEach (system_of_tasks ordered.now.tasks) result.now }
 {
     match priority {
         Priority::Own => ordered.order.priority(),
@@ -96,20 +95,20 @@ fn chosen<'a>(ordered: &'a OrderedProblem, priority: &'a Priority) -> &'a [u32]
 // The page of a run: its events, or why there is none.
 fn simulation_page(
     alloc: Global,
-    ordered: &OrderedProblem,
+    ordered: &OrderedTasks,
     priority: &[u32],
     bound: u64,
     workers: u32,
 ) -> Result<Page, AllocError>
     requires workers { AreWorkers workers }
-    requires priority { IsTraversal (system_of ordered.now.problem) (order_tasks ordered.now.order) →
-        HoldsEach (system_of ordered.now.problem) priority.now }
+    requires priority { IsSharedTraversal (system_of_tasks ordered.now.tasks) (order_tasks ordered.now.order) →
+        HoldsEach (system_of_tasks ordered.now.tasks) priority.now }
     ensures { IfOk result (λ page. IsSimulation
-        (record { system = system_of ordered.now.problem; order = order_tasks ordered.now.order; bound = bound; workers = workers })
+        (record { system = system_of_tasks ordered.now.tasks; order = order_tasks ordered.now.order; bound = bound; workers = workers })
         priority.now (answer_of page)) }
 {
     let order = ordered.order.numbers();
-    match ordered.problem.core(alloc, order, bound, workers) {
+    match ordered.tasks.core(alloc, order, bound, workers) {
         Ok(core) => {
             let simulator = Simulator::new(alloc, core)?;
             trace_page(alloc, &simulator.run(priority))
@@ -128,12 +127,12 @@ pub fn report_simulate<F: Files>(
 ) -> Result<Page, Stop>
     requires { AreWorkers asked.workers }
     ensures told { IsReported (F.bytes_of files.old) (F.faults_of files.old) (F.faults_of files.new)
-        (simulation (input_view asked.entry.input) (source_view asked.entry.source) (simulation_view asked.entry)) result }
+        (simulation (tasks_view asked.entry.tasks) (source_view asked.entry.source) (simulation_view asked.entry)) result }
     ensures same { (other : List ℕ) → F.bytes_of files.new other ≡ F.bytes_of files.old other }
     ensures later { (other : List ℕ) → F.faults_of files.old other ≤ F.faults_of files.new other }
 {
-    let ordered = judge_ordered(alloc, files, asked.input, asked.source)?;
-    let count = ordered.problem.task_count();
+    let ordered = judge_ordered_tasks(alloc, files, asked.tasks, asked.source)?;
+    let count = ordered.tasks.count();
     let priority = judge_priority(alloc, files, asked.priority, count)?;
     let priority = chosen(&ordered, &priority);
     Ok(simulation_page(alloc, &ordered, priority, asked.bound, asked.workers)?)

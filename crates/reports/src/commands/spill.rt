@@ -1,15 +1,19 @@
-//! `spill`: what must go to disk where an order of an input's tasks runs within a bound below its peak.
+//! `spill`: what must go to disk where an order of tasks runs within a bound below its peak.
 
 ghost use Rattle.std.specs.Prelude.{◌≡◌, ◌≤◌, ◌++◌, ℕ, List, IfOk, OnOk, IsTrue, length, map};
 ghost use Rattle.mp_text.specs.Report.{is_line_start, text_of_lines};
 ghost use Rattle.least_peak.specs.Problem.{system_of};
-ghost use Rattle.reports.specs.Spill.{spilled_items, amount_line, spill_answer, IsSpillAnswer};
+ghost use Rattle.reports.specs.Spill.{spilled_items, amount_line, spill_answer, working_set_refused, IsSpillAnswer};
+ghost use Rattle.reports.specs.SpilledGaps.{IsSpillAnswerOf};
 ghost use Rattle.reports.specs.Reported.{IsReported};
 ghost use Rattle.judging.specs.Pages.{answer_of};
 ghost use Rattle.requests.specs.Request.{spill as spilling};
-ghost use Rattle.requests.specs.RequestViews.{input_view, source_view};
+ghost use Rattle.requests.specs.RequestViews.{tasks_view, source_view};
 
-use judging::{Page, PageKind, Stop, judge_ordered, line_page, order_page, print_count, print_end};
+use crate::commands::gap_report::gap_page;
+use judging::{
+    Page, PageKind, Stop, Tasks, judge_ordered_tasks, line_page, order_page, print_count, print_end,
+};
 use least_peak::Problem;
 use mp_outside::Files;
 use mp_text::Report;
@@ -21,8 +25,8 @@ use std::alloc::{AllocError, Global};
 
 // ---- the report
 
-// Of how many items some is spilled.
-fn spilled_count(amounts: &[u64]) -> u64
+/// How many amounts are above 0.
+pub fn spilled_count(amounts: &[u64]) -> u64
     ensures { result ≡ length (spilled_items amounts.now) }
 {
     amounts.iter().filter(|amount| **amount > 0).count() as u64
@@ -57,7 +61,16 @@ fn amounts_page(alloc: Global, spill: &Spill) -> Result<Page, AllocError>
     Ok(Page { kind, report })
 }
 
-// What goes to disk, or why the order cannot run within the bound.
+/// `refused working-set STEP NEED BOUND`
+pub fn working_set_page(alloc: Global, step: u64, need: u64, bound: u64) -> Result<Page, AllocError>
+    ensures { IfOk result (λ page. answer_of page ≡ working_set_refused step need bound) }
+{
+    let (refused, kind) = (Word("refused"), Word("working-set"));
+    let words = [refused, kind, Number(step), Number(need), Number(bound)];
+    line_page(alloc, PageKind::WorkingSet, &words)
+}
+
+// What goes to disk of the items of a problem, or why the order cannot run within the bound.
 fn spill_page(
     alloc: Global,
     problem: &Problem,
@@ -71,11 +84,19 @@ fn spill_page(
         Ok(spill) => amounts_page(alloc, &spill),
         Err(SpillRefusal::Order(fault)) => order_page(alloc, fault),
         Err(SpillRefusal::WorkingSet { step, need, bound }) => {
-            let (refused, kind) = (Word("refused"), Word("working-set"));
-            let words = [refused, kind, Number(step), Number(need), Number(bound)];
-            line_page(alloc, PageKind::WorkingSet, &words)
+            working_set_page(alloc, step, need, bound)
         }
         Err(SpillRefusal::NoMemory) => Err(AllocError),
+    }
+}
+
+// The same of tasks: of the items of a problem, or of the gaps between the uses of a graph's items.
+fn tasks_page(alloc: Global, tasks: &Tasks, order: &[u32], bound: u64) -> Result<Page, AllocError>
+    ensures { IfOk result (λ page. IsSpillAnswerOf tasks.now order.now bound (answer_of page)) }
+{
+    match tasks {
+        Tasks::Problem(problem) => spill_page(alloc, problem, order, bound),
+        Tasks::Graph(system) => gap_page(alloc, system, order, bound),
     }
 }
 
@@ -86,11 +107,11 @@ pub fn report_spill<F: Files>(
     asked: Spilling<'_>,
 ) -> Result<Page, Stop>
     ensures told { IsReported (F.bytes_of files.old) (F.faults_of files.old) (F.faults_of files.new)
-        (spilling (input_view asked.entry.input) (source_view asked.entry.source) asked.entry.bound) result }
+        (spilling (tasks_view asked.entry.tasks) (source_view asked.entry.source) asked.entry.bound) result }
     ensures same { (other : List ℕ) → F.bytes_of files.new other ≡ F.bytes_of files.old other }
     ensures later { (other : List ℕ) → F.faults_of files.old other ≤ F.faults_of files.new other }
 {
-    let ordered = judge_ordered(alloc, files, asked.input, asked.source)?;
+    let ordered = judge_ordered_tasks(alloc, files, asked.tasks, asked.source)?;
     let order = ordered.order.numbers();
-    Ok(spill_page(alloc, &ordered.problem, order, asked.bound)?)
+    Ok(tasks_page(alloc, &ordered.tasks, order, asked.bound)?)
 }

@@ -6,15 +6,15 @@ ghost use Rattle.requests.specs.Request.{IsInRange};
 ghost use Rattle.requests.specs.RequestViews.{request_view};
 
 use crate::request::{
-    Input, OrderSource, Request, input_of, number_given, number_up_to, source_of,
+    OrderSource, Request, TaskSource, number_given, number_up_to, source_of, tasks_of,
 };
 use command_line::Line;
 use limits::MOST_WORKERS;
 
-/// An input, where its order stands, and how its run is simulated.
+/// Tasks, where their order stands, and how their run is simulated.
 #[derive(Clone, Copy, Debug)]
 pub struct Simulation<'a> {
-    pub input: Input<'a>,
+    pub tasks: TaskSource<'a>,
     pub source: OrderSource<'a>,
     /// At most so much memory.
     pub bound: u64,
@@ -24,17 +24,17 @@ pub struct Simulation<'a> {
     pub priority: Option<&'a str>,
 }
 
-/// `simulate`, an input, an order of its tasks, and the bound, the workers and the priority of its run.
+/// `simulate`, an input or a task graph, an order of its tasks, and the bound, the workers and the priority of its run.
 pub fn simulate_of<'a>(line: &Line<'a>) -> Option<Request<'a>>
     ensures value { option_map request_view result ≡ simulate_of line.now.options }
     ensures range { IfSome result (λ request. IsInRange (request_view request)) }
 {
-    let input = input_of(line)?;
+    let tasks = tasks_of(line)?;
     let source = source_of(line.value("order"), line.value("plan"))?;
     let bound = number_given(line.value("bound"))?;
     let workers = number_up_to(u64::from(MOST_WORKERS), line.value("workers"))?;
     Some(Request::Simulate(Simulation {
-        input,
+        tasks,
         source,
         bound,
         workers,

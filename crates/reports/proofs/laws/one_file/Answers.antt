@@ -14,6 +14,6 @@ returns c =
       plans = record { not_both = c.exactly_one-4.ensures.not_both; one_refusal = c.exactly_one-4.ensures.one_refusal };
       patterns = c.exactly_one-3.ensures.one_pattern;
       one_plan = c.exactly_one-4.ensures.one_plan;
-      systems = c.one_input.ensures.system;
+      systems = c.one_input.ensures.tasks;
     } in
     record { not_both = not_both formats; one_refusal = one_refusal formats }

@@ -17,6 +17,7 @@ returns c =
       front_tree = c.front_tree_is_tree.ensures;
       workflows = c.exactly_one-3.ensures.one_workflow;
       graphs = c.exactly_one-4.ensures.one_graph;
+      graph = c.read_law-2.ensures;
       terms = c.read_law.ensures;
       denotes = c.terms_law.ensures.denotes;
       term_system = c.terms_law.ensures.system;

@@ -8,7 +8,7 @@ use Rattle.judging.specs.declared.status.Status.TheVariants.{Done}
 use Rattle.reports.proofs.RunLemmas.{report_when_done, report_of_rest}
 use Rattle.reports.proofs.SoundAnswer.{certified, best, simulated}
 use Rattle.reports.proofs.UpgradeLemmas.{upgraded}
-use Rattle.reports.proofs.SpillLemmas.{spilled}
+use Rattle.reports.proofs.SpillLemmas.{spilled_tasks}
 use Rattle.reports.proofs.StairsLemmas.{reached}
 use Rattle.reports.proofs.ReductionLemmas.{reduced, irreducible}
 use Rattle.reports.proofs.laws.what_answers_say.Goals as goal
@@ -37,15 +37,15 @@ returns c (planning input format) texts answer possible is = λ done.
     c.read_law.ensures c.terms_law.ensures.denotes c.accepted_law.ensures.own
     c.accepted_law.ensures.renamed c.printed_plan.ensures.text c.printed_length.ensures.text
     input format texts answer (report_when_done (planning input format) texts answer is done)
-returns c (simulate input source simulation) texts answer possible is = λ done.
-    simulated c.one_input.ensures.system c.schedule_law.ensures.legal c.schedule_law.ensures.each_once c.schedule_law.ensures.within
-    input source simulation texts answer possible (report_when_done (simulate input source simulation) texts answer is done) done
+returns c (simulate tasks source simulation) texts answer possible is = λ done.
+    simulated c.one_input.ensures.tasks c.schedule_law.ensures.legal c.schedule_law.ensures.each_once c.schedule_law.ensures.within
+    tasks source simulation texts answer possible (report_when_done (simulate tasks source simulation) texts answer is done) done
 returns c (demo made) texts answer possible is =
     λ done. c.one_demo.ensures.shown made answer possible (report_when_done (demo made) texts answer is done)
 returns c (upgrade file) texts answer possible is = λ done.
     upgraded c.one_upgrade.ensures.file file texts answer (report_when_done (upgrade file) texts answer is done)
-returns c (spill input source bound) texts answer possible is = λ done.
-    spilled input source bound texts answer (report_when_done (spill input source bound) texts answer is done) done
+returns c (spill tasks source bound) texts answer possible is = λ done.
+    spilled_tasks tasks source bound texts answer (report_when_done (spill tasks source bound) texts answer is done) done
 returns c (segments input) texts answer possible is = λ done.
     reached c.one_staircase.ensures.each (λ i ts ps ks of_term. (c.one_input.ensures.numbered i ts ps ps ks ks of_term of_term).2)
     input texts answer (report_when_done (segments input) texts answer is done) done

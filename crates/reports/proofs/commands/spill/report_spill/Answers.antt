@@ -1,8 +1,8 @@
-use Rattle.least_peak.specs.Problem.{system_of}
 use Rattle.judging.specs.Judged.{order_tasks}
-use Rattle.requests.specs.RequestViews.{input_view}
+use Rattle.judging.specs.Pages.{answer_of}
+use Rattle.requests.specs.RequestViews.{tasks_view, source_view}
 use Rattle.judging.proofs.StepLemmas.{passed}
-use Rattle.judging.proofs.InputLemmas.{problem_has_system}
+use Rattle.reports.proofs.SpillLemmas.{spill_told}
 use Rattle.reports.proofs.commands.spill.report_spill.Goals as goal
 
 pub returns-in_err-ordered-clause-told : goal.returns-in_err-ordered-clause-told
@@ -13,13 +13,6 @@ pub returns-clause-told : goal.returns-clause-told
 returns-clause-told g c = λ texts are.
     let is = c.in_ok-ordered.ensures.judged texts are in
     let ordered = c.in_ok-ordered.ordered in
-    let is_system = problem_has_system (input_view c.args.asked.input) is.mine ordered.problem is.is_value in (
-      is.mine,
-      is.text,
-      system_of ordered.problem,
-      order_tasks ordered.order,
-      is.texts_are,
-      is_system,
-      is.is_order.0,
-      rw (← c.numbers-order.ensures) c.in_ok-spill_page.ensures,
-    )
+    spill_told (tasks_view c.args.asked.tasks) (source_view c.args.asked.source) c.args.asked.bound texts is.mine is.text
+    ordered.tasks (order_tasks ordered.order) (answer_of c.in_ok-tasks_page.field-0)
+    is.texts_are is.is_value is.is_order.0 (rw (← c.numbers-order.ensures) c.in_ok-tasks_page.ensures)
