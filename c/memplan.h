@@ -57,6 +57,15 @@ typedef struct memplan_item {
     uint32_t to;   /* the task that consumes it, from 1; 0 where it stays to the end */
 } memplan_item;
 
+/* A data item that any number of tasks read: it is in memory once, from the end of the task that produces it to the end of the last of
+ * its readers. The readers of all items stand in one array, item by item. */
+typedef struct memplan_shared_item {
+    uint64_t size;    /* 0 is a mere dependence */
+    uint32_t from;    /* the task that produces it, from 1; 0 where it is there from the start */
+    uint32_t readers; /* how many of the numbers in the array of readers are this item's, after those of the items before it; they rise,
+                       * and the producer is none of them. Where it has none it stays to the end. */
+} memplan_shared_item;
+
 /* A claim that certifies a plan: on the part of the tree's term that ends at a position. memplan_certify_tree writes claims, and
  * memplan_check_tree judges them; between the two they may be kept or sent, as they are. */
 typedef struct memplan_claim {
@@ -118,8 +127,8 @@ enum memplan_kind {
     MEMPLAN_KIND_SIZE = 14,       /* the out or the extra is greater than 2^40 */
     MEMPLAN_KIND_LONG_TIME = 15,  /* the time is greater than 2^40 */
     MEMPLAN_KIND_TOTAL = 16,      /* all outs and extras together are greater than 2^60 */
-    MEMPLAN_KIND_CYCLE = 17,      /* the parents lead to no root */
-    MEMPLAN_KIND_SHARE = 18,      /* the share is greater than what the task consumes, or than its extra and what it produces */
+    MEMPLAN_KIND_CYCLE = 17,      /* the parents lead to no root; or no order of the tasks has this one after what it reads is made */
+    MEMPLAN_KIND_SHARE = 18,      /* the share is greater than what the task alone consumes, or than its extra and what it produces */
 
     /* orders: the first place that fails (at) */
     MEMPLAN_KIND_UNKNOWN = 20,   /* no task has this number */
@@ -143,6 +152,11 @@ enum memplan_kind {
     MEMPLAN_KIND_MANY_ITEMS = 50, /* more than 4,000,001 */
     MEMPLAN_KIND_ENDS = 51,       /* from or to is greater than the number of tasks */
     MEMPLAN_KIND_ITEM_SIZE = 52,  /* the size is greater than 2^40 */
+    MEMPLAN_KIND_MANY_USES = 53,  /* more than 10,000,000 readers of all items together */
+    MEMPLAN_KIND_COUNTS = 54,     /* there are not as many readers as the items say */
+    MEMPLAN_KIND_READERS = 55,    /* a reader is 0, or greater than the number of tasks */
+    MEMPLAN_KIND_APART = 56,      /* its producer reads it */
+    MEMPLAN_KIND_RISING = 57,     /* its readers do not rise: one stands twice, or after a greater one */
 
     /* compressed columns: the first of these tests that fails, with the first place that fails it (at) */
     MEMPLAN_KIND_BASE = 60,         /* the base is neither 0 nor 1 */
@@ -257,6 +271,25 @@ uint32_t memplan_fronts(uint32_t base, const uint32_t *starts, size_t start_coun
 uint32_t memplan_replay_system(const memplan_task *tasks, size_t count, const memplan_item *items, size_t item_count,
                                const uint32_t *order, size_t places, uint64_t *peak, memplan_fault *fault);
 
+/* The same where an item may have any number of readers, and counts once. That the tasks can be ordered is part of the system here.
+ *
+ * tasks, count           the tasks
+ * items, item_count      the items
+ * readers, reader_count  the readers of all items, item by item
+ * order, places          the order
+ * peak                   where its peak goes
+ *
+ * MEMPLAN_DONE    the order is a traversal: it has each task once, after those that produce what it reads; *peak is its peak.
+ * MEMPLAN_NO      the first place at which it is none.
+ * MEMPLAN_USAGE   there are not as many readers as the items say.
+ * MEMPLAN_FORMAT  the first of the tests that fails, with the lowest task or the first item that fails it.
+ * else            MEMPLAN_LIMIT, MEMPLAN_NO_MEMORY.
+ *
+ * Linear in the tasks, the items and the readers. */
+uint32_t memplan_replay_shared(const memplan_task *tasks, size_t count, const memplan_shared_item *items, size_t item_count,
+                               const uint32_t *readers, size_t reader_count, const uint32_t *order, size_t places, uint64_t *peak,
+                               memplan_fault *fault);
+
 /* ---- the activation core: tasks on several workers within a bound on memory ----
  *
  * Whoever runs the tasks embeds it. Tasks are activated along an order, which books their memory; an activated task whose suppliers are
@@ -269,7 +302,7 @@ uint32_t memplan_replay_system(const memplan_task *tasks, size_t count, const me
  *     memplan_core_end(core);
  *     free(core);
  *
- * All calls but the two that begin take no memory, and none of them is refused: a call that may not be is answered 0 and does nothing. */
+ * All calls but the three that begin take no memory, and none of them is refused: a call that may not be is answered 0 and does nothing. */
 
 /* How many bytes a core takes. */
 size_t memplan_core_size(void);
@@ -290,6 +323,11 @@ uint32_t memplan_core_begin(memplan_core *core, const memplan_node *nodes, size_
 uint32_t memplan_core_begin_system(memplan_core *core, const memplan_task *tasks, size_t count, const memplan_item *items,
                                    size_t item_count, const uint32_t *order, size_t places, uint64_t bound, uint32_t workers,
                                    memplan_fault *fault);
+
+/* The same where an item may have any number of readers, as in memplan_replay_shared: it is freed when the last of them ends. */
+uint32_t memplan_core_begin_shared(memplan_core *core, const memplan_task *tasks, size_t count, const memplan_shared_item *items,
+                                   size_t item_count, const uint32_t *readers, size_t reader_count, const uint32_t *order,
+                                   size_t places, uint64_t bound, uint32_t workers, memplan_fault *fault);
 
 /* Activates the next task of the order where its need fits under the bound: its number, or 0. */
 uint32_t memplan_core_activate(memplan_core *core);

@@ -1,6 +1,6 @@
-! Two chains of two nodes below a root: an order of least peak, and the core run along it by one worker; and the fronts of a matrix of four
-! columns, of which the first is joined to all others. Prints both peaks; ends with an error where something is not as it was worked by
-! hand.
+! Two chains of two nodes below a root: an order of least peak, and the core run along it by one worker; the fronts of a matrix of four
+! columns, of which the first is joined to all others; and three tasks that read one input of 10. Prints both peaks; ends with an error
+! where something is not as it was worked by hand.
 program five
    use, intrinsic :: iso_c_binding, only: c_int32_t, c_int64_t, c_loc, c_ptr, c_size_t
    use memplan
@@ -37,6 +37,7 @@ program five
       if (memplan_core_finish(core, task) /= 1) error stop 'finish'
    end do
    if (memplan_core_is_done(core, 5) /= 1 .or. top /= peak) error stop 'run'
+   call fork(core)
    call memplan_core_end(core)
    call arrow()
    print '(a, i0, a, i0)', 'least peak ', peak, ', best postorder ', best
@@ -56,4 +57,21 @@ contains
       if (any(fronts(1:3)%parent /= [3, 3, 0]) .or. any(fronts(1:3)%extra /= [3, 3, 4])) error stop 'nodes'
       if (any(front_of /= [3, 1, 2, 3])) error stop 'fronts of columns'
    end subroutine arrow
+
+   subroutine fork(core)
+      type(c_ptr), intent(in) :: core
+      integer(c_int32_t), parameter :: readers(6) = [1, 2, 3, 4, 4, 4], in_turn(4) = [1, 2, 3, 4]
+      type(memplan_task) :: tasks(4)
+      type(memplan_shared_item) :: items(5)
+      integer(c_int64_t) :: needed
+      tasks%extra = [6, 1, 0, 0]
+      items%size = [10, 3, 4, 5, 2]
+      items%from = [0, 1, 2, 3, 4]
+      items%readers = [3, 1, 1, 1, 0]
+      status = memplan_replay_shared(tasks, 4_c_size_t, items, 5_c_size_t, readers, 6_c_size_t, in_turn, 4_c_size_t, needed, fault)
+      if (status /= memplan_done .or. needed /= 22) error stop 'readers'
+      status = memplan_core_begin_shared(core, tasks, 4_c_size_t, items, 5_c_size_t, readers, 6_c_size_t, in_turn, 4_c_size_t, &
+         needed, 1, fault)
+      if (status /= memplan_done .or. memplan_core_used(core) /= 10) error stop 'a core with readers'
+   end subroutine fork
 end program five

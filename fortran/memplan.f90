@@ -29,6 +29,13 @@ module memplan
       integer(c_int32_t) :: to = 0
    end type memplan_item
 
+   ! A data item that any number of tasks read: so many of the numbers in the array of readers are its own.
+   type, bind(c), public :: memplan_shared_item
+      integer(c_int64_t) :: size = 0
+      integer(c_int32_t) :: from = 0
+      integer(c_int32_t) :: readers = 0
+   end type memplan_shared_item
+
    ! A claim that certifies a plan.
    type, bind(c), public :: memplan_claim
       integer(c_int32_t) :: position = 0
@@ -60,10 +67,10 @@ module memplan
    integer(c_int32_t), parameter, public :: memplan_triangle = 0, memplan_square = 1
 
    public :: memplan_plan_tree, memplan_certify_tree, memplan_check_tree, memplan_best_postorder, memplan_replay_tree
-   public :: memplan_spill_tree, memplan_fronts, memplan_replay_system
-   public :: memplan_core_size, memplan_core_new, memplan_core_begin, memplan_core_begin_system, memplan_core_activate
-   public :: memplan_core_start, memplan_core_finish, memplan_core_is_startable, memplan_core_is_done, memplan_core_used
-   public :: memplan_core_booked, memplan_core_end
+   public :: memplan_spill_tree, memplan_fronts, memplan_replay_system, memplan_replay_shared
+   public :: memplan_core_size, memplan_core_new, memplan_core_begin, memplan_core_begin_system, memplan_core_begin_shared
+   public :: memplan_core_activate, memplan_core_start, memplan_core_finish, memplan_core_is_startable, memplan_core_is_done
+   public :: memplan_core_used, memplan_core_booked, memplan_core_end
 
    interface
       function memplan_plan_tree(nodes, count, order, places, peak, fault) result(status) bind(c)
@@ -155,6 +162,18 @@ module memplan
          integer(c_int32_t) :: status
       end function memplan_replay_system
 
+      function memplan_replay_shared(tasks, count, items, item_count, readers, reader_count, order, places, peak, fault) &
+         result(status) bind(c)
+         import :: c_int32_t, c_int64_t, c_size_t, memplan_task, memplan_shared_item, memplan_fault
+         type(memplan_task), intent(in) :: tasks(*)
+         type(memplan_shared_item), intent(in) :: items(*)
+         integer(c_size_t), value :: count, item_count, reader_count, places
+         integer(c_int32_t), intent(in) :: readers(*), order(*)
+         integer(c_int64_t), intent(inout) :: peak
+         type(memplan_fault), intent(inout) :: fault
+         integer(c_int32_t) :: status
+      end function memplan_replay_shared
+
       function memplan_core_size() result(bytes) bind(c)
          import :: c_size_t
          integer(c_size_t) :: bytes
@@ -190,6 +209,20 @@ module memplan
          type(memplan_fault), intent(inout) :: fault
          integer(c_int32_t) :: status
       end function memplan_core_begin_system
+
+      function memplan_core_begin_shared(core, tasks, count, items, item_count, readers, reader_count, order, places, bound, &
+         workers, fault) result(status) bind(c)
+         import :: c_int32_t, c_int64_t, c_ptr, c_size_t, memplan_task, memplan_shared_item, memplan_fault
+         type(c_ptr), value :: core
+         type(memplan_task), intent(in) :: tasks(*)
+         type(memplan_shared_item), intent(in) :: items(*)
+         integer(c_size_t), value :: count, item_count, reader_count, places
+         integer(c_int32_t), intent(in) :: readers(*), order(*)
+         integer(c_int64_t), value :: bound
+         integer(c_int32_t), value :: workers
+         type(memplan_fault), intent(inout) :: fault
+         integer(c_int32_t) :: status
+      end function memplan_core_begin_shared
 
       function memplan_core_activate(core) result(task) bind(c)
          import :: c_int32_t, c_ptr

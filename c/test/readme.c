@@ -26,7 +26,7 @@ static void lines_of_readme(void)
 static void lines_of_c_readme(void)
 {
 #include "c_readme_lines.h"
-    CHECK(status == MEMPLAN_DONE && peak == 11 && order[4] == 5);
+    CHECK(status == MEMPLAN_DONE && peak == 11 && order[4] == 5 && needed == 22);
 }
 
 int main(void)

@@ -5,13 +5,16 @@
 #include <sys/resource.h>
 #include <unistd.h>
 
-enum { COUNT = 300000, CALLS = 8, PLACES = 28 };
+enum { COUNT = 300000, CALLS = 10, PLACES = 28 };
 
 static memplan_node *nodes;
 static uint32_t *order;
 static uint32_t *starts, *rows, *front_of;
 static memplan_node *fronts;
 static uint64_t *amounts;
+static memplan_task *tasks;
+static memplan_shared_item *items;
+static uint32_t *readers;
 static memplan_claim *claims;
 
 /* As many bytes of address space as the program has, and so many more. */
@@ -53,6 +56,20 @@ static void make_band(void)
         rows[i] = i + 1 < COUNT ? i + 2 : i + 1;
 }
 
+/* Each task reads what the one before it leaves. */
+static void make_tasks(void)
+{
+    tasks = malloc(COUNT * sizeof *tasks);
+    items = malloc(COUNT * sizeof *items);
+    readers = malloc(COUNT * sizeof *readers);
+    CHECK(tasks && items && readers);
+    for (uint32_t i = 0; i < COUNT; i++) {
+        tasks[i] = (memplan_task){1, 0, 1};
+        items[i] = (memplan_shared_item){1, i + 1, i + 1 < COUNT};
+        readers[i] = i + 2;
+    }
+}
+
 static uint32_t call(int which, memplan_fault *fault)
 {
     switch (which) {
@@ -64,6 +81,8 @@ static uint32_t call(int which, memplan_fault *fault)
     case 5: return memplan_spill_tree(nodes, COUNT, order, COUNT, 3, amounts, COUNT, &peak, fault);
     case 6:
         return memplan_fronts(1, starts, COUNT + 1, rows, COUNT, order, COUNT, &triangles, fronts, COUNT, &second, front_of, COUNT, fault);
+    case 7: return memplan_replay_shared(tasks, COUNT, items, COUNT, readers, COUNT - 1, order, COUNT, &peak, fault);
+    case 8: return memplan_core_begin_shared(core, tasks, COUNT, items, COUNT, readers, COUNT - 1, order, COUNT, 3, 1, fault);
     default: return memplan_core_begin(core, nodes, COUNT, order, COUNT, 3, 1, fault);
     }
 }
@@ -79,6 +98,7 @@ int main(void)
     core = malloc(memplan_core_size());
     CHECK(order && amounts && claims && core);
     make_band();
+    make_tasks();
     memplan_core_new(core);
     int wanting = 0, of_call[CALLS] = {0};
     for (int which = 0; which < CALLS; which++)
@@ -117,6 +137,9 @@ int main(void)
     free(nodes);
     free(order);
     free(amounts);
+    free(tasks);
+    free(items);
+    free(readers);
     free(claims);
     free(starts);
     free(rows);

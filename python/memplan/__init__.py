@@ -16,14 +16,15 @@ from array import array
 from pathlib import Path
 from typing import Any, Dict, List, Literal, NamedTuple, NoReturn, Optional, Sequence, SupportsIndex, Tuple, Type, Union
 
-from ._numbers import BOOLS, U32, U64, back, column, columns_of, fields_of, numbers, structures, view, whole
-from ._types import Array, Matrix, Rows, WholeNumbers
+from ._numbers import BOOLS, U32, U64, back, column, columns_of, columns_with_lists, fields_of, for_c, numbers, structures, view, whole
+from ._types import Array, Matrix, Rows, SharedItems, WholeNumbers
 
 __all__ = [
     "Certificate",
     "Core",
     "Fronts",
     "Refused",
+    "SharedItem",
     "__version__",
     "best_postorder",
     "certify",
@@ -31,6 +32,7 @@ __all__ = [
     "fronts",
     "plan",
     "replay",
+    "replay_shared",
     "replay_system",
     "spill",
 ]
@@ -52,6 +54,10 @@ class _Task(ctypes.Structure):
 
 class _Item(ctypes.Structure):
     _fields_ = [("size", ctypes.c_uint64), ("from_", ctypes.c_uint32), ("to", ctypes.c_uint32)]
+
+
+class _SharedItem(ctypes.Structure):
+    _fields_ = [("size", ctypes.c_uint64), ("from_", ctypes.c_uint32), ("readers", ctypes.c_uint32)]
 
 
 class _Claim(ctypes.Structure):
@@ -88,7 +94,7 @@ _KINDS = {
     14: "a size is greater than 2^40",
     15: "a time is greater than 2^40",
     16: "all sizes together are greater than 2^60",
-    17: "the parents lead to no root",
+    17: "the parents lead to no root, or the tasks wait for each other",
     18: "a share does not fit",
     20: "no task has this number",
     21: "a task stands twice",
@@ -106,6 +112,11 @@ _KINDS = {
     50: "there are more than 4,000,001 items",
     51: "an item is produced or consumed by no task",
     52: "the size of an item is greater than 2^40",
+    53: "there are more than 10,000,000 readers",
+    54: "there are not as many readers as the items say",
+    55: "a reader of an item is no task",
+    56: "an item is read by the task that produces it",
+    57: "the readers of an item do not rise",
     60: "the base is neither 0 nor 1",
     61: "there is no column",
     62: "there are more than 1,000,000 columns",
@@ -164,6 +175,15 @@ class Fronts(NamedTuple):
     front_of: Array
 
 
+class SharedItem(NamedTuple):
+    """An item that any number of tasks read: its size; the task that produces it, from 1, or 0 where it is there from the start; and the
+    tasks that read it, which rise. Without readers it stays to the end."""
+
+    size: int
+    from_: int
+    readers: Sequence[int] = ()
+
+
 _Signature = Tuple[Any, List[Any]]  # a call's result and its arguments
 
 
@@ -174,6 +194,7 @@ def _signatures() -> Tuple[Dict[str, _Signature], Dict[str, _Signature]]:
     order: List[Any] = [ctypes.POINTER(u32), size]
     claims: List[Any] = [ctypes.POINTER(_Claim), size]
     system: List[Any] = [ctypes.POINTER(_Task), size, ctypes.POINTER(_Item), size]
+    shared: List[Any] = [ctypes.POINTER(_Task), size, ctypes.POINTER(_SharedItem), size, ctypes.POINTER(u32), size]
     number: List[Any] = [ctypes.POINTER(u64)]
     fault: List[Any] = [ctypes.POINTER(_Fault)]
     options: List[Any] = [ctypes.POINTER(_FrontOptions)]
@@ -188,8 +209,10 @@ def _signatures() -> Tuple[Dict[str, _Signature], Dict[str, _Signature]]:
         "spill_tree": (u32, nodes + order + [u64, ctypes.POINTER(u64), size] + number + fault),
         "fronts": (u32, [u32] + order + order + order + options + nodes + number + order + fault),
         "replay_system": (u32, system + order + number + fault),
+        "replay_shared": (u32, shared + order + number + fault),
         "core_begin": (u32, core + nodes + order + [u64, u32] + fault),
         "core_begin_system": (u32, core + system + order + [u64, u32] + fault),
+        "core_begin_shared": (u32, core + shared + order + [u64, u32] + fault),
     }
     steps: Dict[str, _Signature] = {
         "core_size": (size, []),
@@ -444,6 +467,24 @@ def replay_system(tasks: WholeNumbers, items: Rows, order: WholeNumbers) -> int:
     return peak.value
 
 
+def _shared(tasks: WholeNumbers, items: SharedItems) -> Tuple[Any, int, Any, int, Any, int]:
+    """The tasks, the items and the readers of all items as C has them, and how many they are."""
+    extras = column("tasks[{}]", tasks, U64)
+    (sizes, suppliers, counts), readers = columns_with_lists("items", items, _SharedItem)
+    made = structures(_Task, len(extras), extra=extras, time=_ones(len(extras)))
+    listed = structures(_SharedItem, len(sizes), size=sizes, from_=suppliers, readers=counts)
+    return made, len(extras), listed, len(sizes), *for_c(readers)
+
+
+def replay_shared(tasks: WholeNumbers, items: SharedItems, order: WholeNumbers) -> int:
+    """The peak of an order of tasks that hand items to each other, each to any number of readers: the extra of each task, and items
+    (size, from, readers), as `SharedItem` is one. An item counts once, until the last of its readers has run."""
+    system, (places, length) = _shared(tasks, items), numbers("order[{}]", order)
+    peak, fault = ctypes.c_uint64(), _Fault()
+    _answer(_plans.memplan_replay_shared(*system, places, length, ctypes.byref(peak), ctypes.byref(fault)), fault)
+    return peak.value
+
+
 class Core:
     """The activation core: tasks on several workers within a bound on memory.
 
@@ -485,6 +526,18 @@ class Core:
     ) -> "Core":
         """A core for tasks that hand items to each other, as in `replay_system`."""
         return cls._begun(_plans.memplan_core_begin_system, _system(tasks, items), order, bound, workers)
+
+    @classmethod
+    def of_shared(
+        cls,
+        tasks: WholeNumbers,
+        items: SharedItems,
+        order: WholeNumbers,
+        bound: SupportsIndex,
+        workers: SupportsIndex,
+    ) -> "Core":
+        """A core for tasks that hand items to each other, each to any number of readers, as in `replay_shared`."""
+        return cls._begun(_plans.memplan_core_begin_shared, _shared(tasks, items), order, bound, workers)
 
     @classmethod
     def _begun(cls, begin: Any, work: Tuple[Any, ...], order: WholeNumbers, bound: Any, workers: Any) -> "Core":

@@ -115,16 +115,44 @@ def fields_of(kind: Any) -> Dict[str, Any]:
 def columns_of(name: str, rows: Any, kind: Type[ctypes.Structure]) -> List[memoryview]:
     """The columns of rows that have a number for each field of a structure."""
     fields = [(field.rstrip("_"), _WIDTHS[its]) for field, its in fields_of(kind).items()]
-    wanted = "(" + ", ".join(field for field, _ in fields) + ")"
+    turned = _turned(name, rows, [field for field, _ in fields], "numbers")
+    return [column(f"{name}[{{}}].{field}", values, width) for (field, width), values in zip(fields, turned)]
+
+
+def columns_with_lists(name: str, rows: Any, kind: Type[ctypes.Structure]) -> Tuple[List[memoryview], memoryview]:
+    """The same of rows whose last part is a list of numbers of 32 bits, of which the structure has the length; and all lists, one after the
+    other."""
+    *fields, (last, _) = [(field.rstrip("_"), _WIDTHS[its]) for field, its in fields_of(kind).items()]
+    *turned, lists = _turned(name, rows, [*(field for field, _ in fields), last], "parts")
+    columns = [column(f"{name}[{{}}].{field}", values, width) for (field, width), values in zip(fields, turned)]
+    together = _together(f"{name}[{{}}].{last}", lists)
+    return [*columns, memoryview(array(U32.letter, map(len, lists)))], together
+
+
+def _together(name: str, lists: Sequence[Any]) -> memoryview:
+    """All numbers of the lists. They are looked at all together, which is faster, and list by list to name one that is wrong."""
+    if set(map(type, lists)) <= {list, tuple}:
+        try:
+            return column("{}", [number for values in lists for number in values], U32)
+        except (TypeError, OverflowError):
+            pass
+    made = array(U32.letter)
+    for at, values in enumerate(lists):
+        made.extend(column(name.format(at) + "[{}]", values, U32).tolist())
+    return memoryview(made)
+
+
+def _turned(name: str, rows: Any, fields: Sequence[str], parts: str) -> Sequence[Sequence[Any]]:
+    """The columns of rows that have so many parts."""
+    wanted = "(" + ", ".join(fields) + ")"
     if not isinstance(rows, _ROWS):
         raise TypeError(f"{name}: {reprlib.repr(rows)} is no list of tuples {wanted}")
     for at, row in enumerate(rows):
         if not isinstance(row, _ROWS):
             raise TypeError(f"{name}[{at}]: {reprlib.repr(row)} is no tuple {wanted}")
         if len(row) != len(fields):
-            raise ValueError(f"{name}[{at}]: {reprlib.repr(row)} has not the {len(fields)} numbers {wanted}")
-    turned = list(zip(*rows)) or [()] * len(fields)
-    return [column(f"{name}[{{}}].{field}", values, width) for (field, width), values in zip(fields, turned)]
+            raise ValueError(f"{name}[{at}]: {reprlib.repr(row)} has not the {len(fields)} {parts} {wanted}")
+    return [*zip(*rows)] or [()] * len(fields)
 
 
 def structures(kind: Type[ctypes.Structure], count: int, **columns: memoryview) -> Any:
@@ -140,7 +168,11 @@ def structures(kind: Type[ctypes.Structure], count: int, **columns: memoryview) 
 
 def numbers(name: str, values: Any) -> Tuple[Any, int]:
     """An array of C of numbers of 32 bits, with room for one at least, and how many they are."""
-    given = column(name, values, U32)
+    return for_c(column(name, values, U32))
+
+
+def for_c(given: memoryview) -> Tuple[Any, int]:
+    """The same of numbers that were looked at already."""
     made = (ctypes.c_uint32 * max(len(given), 1))()
     view(made, len(given))[:] = given
     return made, len(given)

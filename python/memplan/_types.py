@@ -2,7 +2,7 @@
 
 from __future__ import annotations
 
-from typing import TYPE_CHECKING, Any, Iterator, Protocol, SupportsIndex, Tuple, Union
+from typing import TYPE_CHECKING, Any, Iterator, Protocol, Sequence, SupportsIndex, Tuple, Union
 
 if TYPE_CHECKING:
     from numpy import dtype, int64, ndarray
@@ -31,6 +31,10 @@ class Rows(Protocol):
     def __iter__(self) -> Iterator[WholeNumbers]: ...
 
     def __getitem__(self, place: int, /) -> Any: ...
+
+
+SharedItems = Sequence[Tuple[SupportsIndex, SupportsIndex, WholeNumbers]]
+"""Tuples (size, from, readers), as `SharedItem` is one."""
 
 
 class SparseMatrix(Protocol):

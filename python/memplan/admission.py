@@ -15,14 +15,14 @@ from itertools import islice
 from operator import index
 from typing import Collection, Dict, List, Optional, Sequence, Set, SupportsIndex, Tuple
 
-from . import Core, Refused, plan, replay_system
+from . import Core, Refused, SharedItem, plan, replay_shared
 from ._numbers import U32, U64, column, whole
 from ._types import WholeNumbers
 
 __all__ = ["MOST_RUNNING", "Admission", "BoundTooLow", "Graph", "GraphRefused"]
 
-MOST_RUNNING = 4095
-"""How many tasks may run at once: of the 4,096 workers of a core one is left for the tasks that hold shared results."""
+MOST_RUNNING = 4096
+"""How many tasks may run at once: as many as a core has workers."""
 
 _FORMAT = 3
 _CYCLE = 17
@@ -45,7 +45,7 @@ class GraphRefused(Refused):
     kind    what is wrong                                                         what is told
     ======  ====================================================================  ============================
     10      there is no task, and a plan is asked for                             neither
-    11      the tasks and the results with several consumers are over 1,000,000   neither
+    11      the tasks are over 1,000,000                                          neither
     14, 52  the extra of a task, or the size of its result, is over 2^40          ``task``
     16      all sizes and extras together are over 2^60                           neither
     17      tasks wait for each other, or one for itself                          ``task``, the first of these
@@ -53,7 +53,7 @@ class GraphRefused(Refused):
     21      the order has a task twice                                            ``place``, ``task``
     22      the order has a task before one whose result it consumes              ``place``, ``task``
     23      the order ends, and has not every task                                ``place``, the order's length
-    50      the results, and what makes tasks wait for them, are over 4,000,001   neither
+    53      the inputs of all tasks together are over 10,000,000                  neither
     ======  ====================================================================  ============================
 
     No other kind comes of a graph. ``task`` and ``place`` are None where they are not told. ``status`` and ``kind`` are those of
@@ -72,13 +72,14 @@ class GraphRefused(Refused):
 
 _WORDS = {
     10: "there is no task",
-    11: "there are more than 1,000,000 tasks and results with several consumers",
+    11: "there are more than 1,000,000 tasks",
     14: "task {task}: its extra, or the size of its result, is greater than 2^40",
     20: "order[{place}]: there is no task {task}",
     21: "order[{place}]: task {task} stands there again",
     22: "order[{place}]: task {task} stands before one whose result it consumes",
     23: "order[{place}]: the order ends here, and has not every task",
     52: "task {task}: its extra, or the size of its result, is greater than 2^40",
+    53: "the tasks have more than 10,000,000 inputs together",
 }
 
 
@@ -151,18 +152,8 @@ class Graph:
         return sorted(it for it, place in places.items() if place >= places[task])
 
     def _owners(self) -> List[int]:
-        """For each result the task of the core, from 1, that takes it out of memory: its one consumer or, where there are several, a task
-        of its own, its holder, behind those of the graph; 0 where it stays."""
-        owners, last = [], len(self.sizes)
-        for result, users in enumerate(self.consumers):
-            if result in self.kept:
-                owners.append(0)
-            elif len(users) == 1:
-                owners.append(users[0] + 1)
-            else:
-                last += 1
-                owners.append(last)
-        return owners
+        """For each result the task, from 1, that alone consumes it; 0 where it stays, or where there are several."""
+        return [users[0] + 1 if len(users) == 1 and result not in self.kept else 0 for result, users in enumerate(self.consumers)]
 
     @property
     def is_forest(self) -> bool:
@@ -183,47 +174,38 @@ class Graph:
         """The peak of an order, which is the least bound along it."""
         tasks, items = self.system()
         try:
-            return replay_system(tasks, items, self.with_holders(order))
+            return replay_shared(tasks, items, self.numbered(order))
         except Refused as refusal:
             raise self.told(refusal, order) from None
 
-    def system(self) -> Tuple[List[int], List[Tuple[int, int, int]]]:
-        """The extras and the items for the core. A shared result goes to its holder, and items of size 0 make its consumers come after
-        the task that leaves it, and the holder after them."""
-        count = len(self.sizes)
-        extras = list(self.extras) + [0] * sum(owner > count for owner in self.owners)
-        items = []
-        for result, users in enumerate(self.consumers):
-            owner = self.owners[result]
-            items.append((self.sizes[result], result + 1, owner))
-            items += [(0, result + 1, user + 1) for user in users if user + 1 != owner]
-            items += [(0, user + 1, owner) for user in users if owner > count]
-        return extras, items
+    def system(self) -> Tuple[List[int], List[SharedItem]]:
+        """The extras and the items for the core: a result is read by its consumers. One that is kept is read by none, and an item of size
+        0 makes its consumers wait for it."""
+        items = [SharedItem(size, task + 1, self._readers_of(task)) for task, size in enumerate(self.sizes)]
+        for task in sorted(self.kept):
+            if self.consumers[task]:
+                items.append(SharedItem(0, task + 1, self._readers_of(task)))
+                items[task] = items[task]._replace(readers=())
+        return self.extras, items
 
-    def with_holders(self, order: WholeNumbers) -> List[int]:
-        """The order for the core: each holder comes right after the last consumer of its result. 0 stands for what is no task, which
-        could be the number of a holder."""
-        left, count = [len(users) for users in self.consumers], len(self.sizes)
-        whole = []
-        for task in column("order[{}]", order, U32).tolist():
-            whole.append(task + 1 if task < count else 0)
-            for result in self.inputs[task] if task < count else ():
-                left[result] -= 1
-                if left[result] == 0 and self.owners[result] > count:
-                    whole.append(self.owners[result])
-        return whole
+    def _readers_of(self, task: int) -> List[int]:
+        return [user + 1 for user in self.consumers[task]]
+
+    def numbered(self, order: WholeNumbers) -> List[int]:
+        """The order for the core. 0 stands for what is no task."""
+        return [task + 1 if task < len(self.sizes) else 0 for task in column("order[{}]", order, U32).tolist()]
 
     def told(self, refusal: Refused, order: WholeNumbers = ()) -> GraphRefused:
-        """What the library says of `system` and `with_holders`, in words of the graph and the order."""
+        """What the library says of `system` and of an order, in words of the graph."""
         kind, at = refusal.kind, refusal.at
         task: Optional[int] = None
         place: Optional[int] = None
         if kind == 14:
             task = at - 1
         elif kind == 52:
-            task = self.system()[1][at - 1][1] - 1
+            task = self.system()[1][at - 1].from_ - 1
         elif 20 <= kind <= 23:
-            place = sum(number <= len(self.sizes) for number in self.with_holders(order)[: at - 1])
+            place = at - 1
             task = int(order[place]) if place < len(order) else None
         words = _WORDS.get(kind, str(refusal)).format(task=task, place=place)
         return GraphRefused((refusal.status, kind), words, None if kind == 20 else task, place)
@@ -241,24 +223,18 @@ class Admission:
         extras, items = graph.system()
         order = graph.planned() if order is None else order
         try:
-            self._core = Core.of_system(extras, items, graph.with_holders(order), bound, MOST_RUNNING + 1)
+            self._core = Core.of_shared(extras, items, graph.numbered(order), bound, MOST_RUNNING)
         except Refused as refusal:
             if refusal.kind == _BOUND_BELOW_PEAK:
                 raise BoundTooLow(index(bound), refusal.value) from None
             raise graph.told(refusal, order) from None
-        self._successors: Dict[int, Set[int]] = {}
-        for _, supplier, consumer in items:
-            if consumer:
-                self._successors.setdefault(supplier, set()).add(consumer)
         # What is in the way of each task's start: its activation, and its suppliers.
-        self._before_start = [1] * (len(extras) + 1)
-        for consumers in self._successors.values():
-            for consumer in consumers:
-                self._before_start[consumer] += 1
-        # What is in the way of each task's finish: that it is done, and the results that it takes out of memory.
-        self._before_finish = [1] * (len(extras) + 1)
-        for owner in graph.owners:
-            self._before_finish[owner] += 1
+        self._before_start = [1 + len(inputs) for inputs in graph.inputs]
+        # What is in the way of each task's finish: that it is done, and those inputs that go with it, till they are gone.
+        self._before_finish = [1] * self._tasks
+        self._readers = [len(users) for users in graph.consumers]  # of each result, as far as they are not done
+        self._last_reader: Dict[int, int] = {}  # of a result that is on its way out of memory
+        self._gone: Set[int] = set()
         self._uses = [len(users) for users in graph.consumers]
         self._ready: List[int] = []
         self._running = 0
@@ -268,7 +244,7 @@ class Admission:
     def ready(self) -> List[int]:
         """The tasks that may start from now on; each is told once."""
         while task := self._core.activate():
-            self._clear(task)
+            self._clear(task - 1)
         ready, self._ready = self._ready, []
         return ready
 
@@ -290,12 +266,19 @@ class Admission:
         return spent
 
     def done(self, task: int) -> None:
-        """The task has run. It is finished when the results that it alone consumes are gone too."""
-        self._settle(task + 1)
+        """The task has run. It is finished when the results are gone too of which it was the last consumer to run."""
+        for result in self._graph.inputs[task]:
+            self._readers[result] -= 1
+            if self._readers[result] == 0 and result not in self._graph.kept and result not in self._gone:
+                self._last_reader[result] = task
+                self._before_finish[task] += 1
+        self._settle(task)
 
     def gone(self, result: int) -> None:
         """The result that a task left is in no memory any more."""
-        self._settle(self._graph.owners[result])
+        self._gone.add(result)
+        if result in self._last_reader:
+            self._settle(self._last_reader.pop(result))
 
     @property
     def used(self) -> int:
@@ -305,10 +288,7 @@ class Admission:
     def _clear(self, task: int) -> None:
         self._before_start[task] -= 1
         if self._before_start[task] == 0:
-            if task <= self._tasks:
-                self._ready.append(task - 1)
-            else:
-                self._settle(task)
+            self._ready.append(task)
 
     def _settle(self, task: int) -> None:
         self._before_finish[task] -= 1
@@ -316,13 +296,10 @@ class Admission:
             self._finish(task)
 
     def _finish(self, task: int) -> None:
-        if task <= self._tasks:
-            self._running -= 1
-            self.left -= 1
-        else:
-            self._must(self._core.start(task))
-        self._must(self._core.finish(task))
-        for consumer in self._successors.get(task, ()):
+        self._running -= 1
+        self.left -= 1
+        self._must(self._core.finish(task + 1))
+        for consumer in self._graph.consumers[task]:
             self._clear(consumer)
 
     @staticmethod

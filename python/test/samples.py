@@ -20,6 +20,10 @@ IN_TURN, ACROSS = [1, 2, 3, 4, 5], [1, 3, 2, 4, 5]
 # A task that splits 6 into 3 and 4, one for each, and one that takes what both leave.
 TASKS, ITEMS = [0, 0, 2, 0], [(6, 0, 1), (3, 1, 2), (4, 1, 3), (2, 2, 4), (5, 3, 4), (1, 4, 0)]
 
+# Three tasks that read one input of 10, and one that takes the 3, 4 and 5 that they leave: one after the other they need 22, and the other
+# way 28.
+FORK, FORKED = [6, 1, 0, 0], [(10, 0, [1, 2, 3]), (3, 1, [4]), (4, 2, [4]), (5, 3, [4]), (2, 4, [])]
+
 # Column 0 is joined to all others: eliminated third, it leaves two fronts of one column, and one of two.
 ARROW = ([0, 3, 3, 3, 3], [1, 2, 3])
 

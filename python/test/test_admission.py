@@ -6,10 +6,10 @@ import unittest
 from typing import Any, Optional, Sequence, Tuple
 
 import memplan
-from memplan.admission import Admission, BoundTooLow, Graph, GraphRefused
+from memplan.admission import MOST_RUNNING, Admission, BoundTooLow, Graph, GraphRefused
 from samples import Case
 
-# The result of 0 is shared by 1 and 2, and so has a holder, which is task 5 of the core; that of 1 goes to 3, as does that of 2.
+# The result of 0 is shared by 1 and 2; that of 1 goes to 3, as does that of 2.
 SHARED = [(), (0,), (0,), (1, 2)]
 
 
@@ -34,6 +34,63 @@ class Bounds(Case):
         self.assertEqual(Admission(Graph([], [], []), 0, []).left, 0)
 
 
+class Runs(Case):
+    """What is reported, and what may start then."""
+
+    def run_next(self, runs: Admission, task: int) -> int:
+        """Runs a task by itself, whose spent results are gone at once: what is held then."""
+        runs.ready()
+        self.assertTrue(runs.start(task))
+        spent = runs.spent(task)
+        runs.done(task)
+        for result in spent:
+            runs.gone(result)
+        return runs.used
+
+    # The result of 0 is there till both consumers have run and it is gone; whichever runs last waits for that.
+    def test_a_shared_result_goes_with_its_last_consumer(self) -> None:
+        for first, last in ((1, 2), (2, 1)):
+            runs = Admission(shared(), 99, [0, 1, 2, 3])
+            self.assertEqual((runs.ready(), runs.start(0), runs.spent(0)), ([0], True, []))
+            runs.done(0)
+            self.assertEqual((runs.ready(), runs.used), ([1, 2], 5))
+            self.assertTrue(runs.start(first) and runs.start(last))
+            self.assertEqual((runs.used, runs.spent(first), runs.spent(last)), (5 + 3 + 2 + 4, [], [0]))
+            runs.done(first)
+            self.assertEqual((runs.left, runs.ready()), (2, []))
+            runs.done(last)
+            self.assertEqual((runs.left, runs.ready()), (2, []), "the result of 0 is not gone yet")
+            self.assertGreaterEqual(runs.used, 5 + 3 + 4)
+            runs.gone(0)
+            self.assertEqual((runs.left, runs.ready(), runs.used), (1, [3], 3 + 4))
+
+    # It may be told that a result is gone before it is told that its last consumer has run.
+    def test_a_result_that_is_gone_early(self) -> None:
+        runs = Admission(shared(), 99, [0, 1, 2, 3])
+        self.run_next(runs, 0)
+        self.run_next(runs, 1)
+        self.assertTrue(runs.start(2))
+        runs.gone(0)
+        runs.done(2)
+        self.assertEqual((runs.left, runs.used, runs.ready()), (1, 3 + 4, [3]))
+
+    # A result that is kept makes its consumers wait, and stays.
+    def test_a_kept_result_stays(self) -> None:
+        graph = Graph(SHARED, (5, 3, 4, 1), (0, 0, 2, 0), kept=[0])
+        self.assertEqual(graph.least_bound([0, 1, 2, 3]), 14)
+        runs = Admission(graph, 14, [0, 1, 2, 3])
+        self.assertEqual([self.run_next(runs, task) for task in range(4)], [5, 5 + 3, 5 + 3 + 4, 5 + 1])
+        self.assertEqual((runs.left, runs.ready()), (0, []))
+
+    # As many as a core has workers, and one more.
+    def test_as_many_run_as_may(self) -> None:
+        count = MOST_RUNNING + 1
+        runs = Admission(Graph([()] * count, [0] * count, [0] * count), 0, range(count))
+        self.assertEqual([runs.start(task) for task in runs.ready()], [True] * MOST_RUNNING + [False])
+        runs.done(0)
+        self.assertTrue(runs.start(MOST_RUNNING))
+
+
 class Refusals(Case):
     def told(self, call: Any, *arguments: Any) -> Tuple[int, int, Optional[int], Optional[int], str]:
         """Kind, place from 1, task and place from 0, and the words of the refusal with which the call ends."""
@@ -54,8 +111,8 @@ class Refusals(Case):
         self.check_order([0, 1, 2], 23, 4, None, 3, "order[3]: the order ends here, and has not every task")
         self.check_order([], 23, 1, None, 0, "order[0]: the order ends here, and has not every task")
 
-    # The holder comes between the tasks, so that the core counts one place more; and it has the number that the next task would have.
-    def test_places_behind_a_holder(self) -> None:
+    # Places behind the last consumer of the shared result, and the number that the next task would have.
+    def test_places_behind_a_shared_result(self) -> None:
         self.check_order([0, 1, 2, 2], 21, 4, 2, 3, "order[3]: task 2 stands there again")
         self.check_order([0, 1, 2, 4], 20, 4, None, 3, "order[3]: there is no task 4")
         self.check_order([0, 4, 1, 2, 3], 20, 2, None, 1, "order[1]: there is no task 4")
@@ -76,11 +133,16 @@ class Refusals(Case):
         self.assertEqual(self.told(Graph([], [], []).planned), (10, 0, None, None, "there is no task"))
         count = 1_000_001
         graph = Graph([()] * count, [0] * count, [0] * count)
-        words = "there are more than 1,000,000 tasks and results with several consumers"
+        words = "there are more than 1,000,000 tasks"
         self.assertEqual(self.told(graph.planned), (11, 0, None, None, words))
+        self.assertEqual(self.told(graph.least_bound, range(count)), (11, 0, None, None, words))
         count = 2 ** 19 + 1  # of twice 2^40 each
         graph = Graph([()] * count, [2 ** 40] * count, [2 ** 40] * count)
         self.assertEqual(self.told(graph.planned), (16, 0, None, None, "all sizes together are greater than 2^60"))
+        graph = Graph([(), (0,)], [0, 0], [0, 0])
+        graph.consumers[0] = [1] * 10_000_001  # by hand: graphs with so many take long to make
+        words = "the tasks have more than 10,000,000 inputs together"
+        self.assertEqual(self.told(graph.least_bound, [0, 1]), (53, 0, None, None, words))
 
     def test_circles(self) -> None:
         def made(*inputs: Sequence[int]) -> Graph:

@@ -9,7 +9,7 @@ from typing import Any
 from unittest import mock
 
 import memplan
-from samples import ACROSS, ARROW, EXTRA, IN_TURN, ITEMS, OUT, PARENT, TASKS, Case, numpy
+from samples import ACROSS, ARROW, EXTRA, FORK, FORKED, IN_TURN, ITEMS, OUT, PARENT, TASKS, Case, numpy, put
 
 try:
     import scipy.sparse
@@ -143,6 +143,70 @@ class Systems(Case):
         self.says(ValueError, f"items[2]: (4, 1) has not the 3 numbers {fields}", memplan.Core.of_system, TASKS, short, ACROSS, 20, 2)
         self.says(TypeError, f"items[2]: 4 is no tuple {fields}", memplan.replay_system, TASKS, put_item(4), [1, 2, 3, 4])
         self.says(TypeError, f"items: None is no list of tuples {fields}", memplan.replay_system, TASKS, None, [1, 2, 3, 4])
+
+
+class Readers(Case):
+    def test_the_peak_of_an_order(self) -> None:
+        self.assertEqual(memplan.replay_shared(FORK, FORKED, [1, 2, 3, 4]), 22)
+        self.assertEqual(memplan.replay_shared(FORK, FORKED, [3, 2, 1, 4]), 28)
+        self.assertEqual(memplan.replay_shared(FORK, [memplan.SharedItem(*item) for item in FORKED], [1, 2, 3, 4]), 22)
+        self.assertEqual(memplan.replay_shared([7], [], [1]), 7)
+        self.assertEqual(memplan.replay_shared([0], [memplan.SharedItem(3, 0)], [1]), 3)
+
+    def test_items_of_one_reader_are_those_of_a_system(self) -> None:
+        shared = [(size, maker, [user] if user else []) for size, maker, user in ITEMS]
+        for order in ([1, 2, 3, 4], [1, 3, 2, 4]):
+            self.assertEqual(memplan.replay_shared(TASKS, shared, order), memplan.replay_system(TASKS, ITEMS, order))
+
+    @unittest.skipUnless(numpy, "there is no numpy")
+    def test_readers_in_an_array(self) -> None:
+        arrays = [(size, maker, numpy.array(readers, "int64")) for size, maker, readers in FORKED]
+        self.assertEqual(memplan.replay_shared(numpy.array(FORK), arrays, numpy.array([3, 2, 1, 4])), 28)
+
+    def test_what_is_no_system_is_refused(self) -> None:
+        for at, item, told in (
+            (3, (5, 5, [4]), (3, 51, 4, 0)),
+            (0, (10, 0, [1, 2, 5]), (3, 55, 1, 0)),
+            (2, (4, 2, [0]), (3, 55, 3, 0)),
+            (0, (10, 2, [1, 2, 3]), (3, 56, 1, 0)),
+            (0, (10, 0, [1, 3, 2]), (3, 57, 1, 0)),
+            (0, (10, 0, [1, 1, 2]), (3, 57, 1, 0)),
+            (4, (2**40 + 1, 4, []), (4, 52, 5, 0)),
+            (4, (2, 4, [1]), (3, 17, 1, 0)),
+        ):
+            items = put(FORKED, at, item)
+            self.assertEqual(self.refused(memplan.replay_shared, FORK, items, [1, 2, 3, 4]), told)
+            self.assertEqual(self.refused(memplan.Core.of_shared, FORK, items, [1, 2, 3, 4], 22, 2), told)
+        self.assertEqual(self.refused(memplan.replay_shared, FORK, FORKED, [1, 2, 4, 3]), (1, 22, 3, 0))
+        self.assertEqual(self.refused(memplan.replay_shared, put(FORK, 1, 2**40 + 1), FORKED, [1, 2, 3, 4]), (4, 14, 2, 0))
+
+    # The package counts the readers itself, so the library is asked with one fewer.
+    def test_readers_that_are_fewer_than_the_items_say(self) -> None:
+        call = memplan._plans.memplan_replay_shared
+
+        def asked(*arguments: Any) -> int:
+            return int(call(*arguments[:5], arguments[5] - 1, *arguments[6:]))
+
+        with mock.patch.object(memplan._plans, "memplan_replay_shared", side_effect=asked):
+            self.assertEqual(self.refused(memplan.replay_shared, FORK, FORKED, [1, 2, 3, 4]), (2, 54, 0, 0))
+
+    def test_more_readers_than_there_may_be(self) -> None:
+        items = [(1, 0, [1] * 10_000_001)]
+        self.assertEqual(self.refused(memplan.replay_shared, [0], items, [1]), (4, 53, 0, 0))
+
+    def test_what_is_no_item(self) -> None:
+        def said(kind: Any, words: str, item: Any) -> None:
+            self.says(kind, words, memplan.replay_shared, FORK, put(FORKED, 1, item), [1, 2, 3, 4])
+            self.says(kind, words, memplan.Core.of_shared, FORK, put(FORKED, 1, item), [1, 2, 3, 4], 22, 2)
+
+        said(ValueError, "items[1]: (3, 1) has not the 3 parts (size, from, readers)", (3, 1))
+        said(TypeError, "items[1]: 3 is no tuple (size, from, readers)", 3)
+        said(TypeError, "items[1].readers: 4 is no list or array of whole numbers", (3, 1, 4))
+        said(TypeError, "items[1].readers: {4} is no list or array of whole numbers", (3, 1, {4}))
+        said(TypeError, "items[1].readers[0]: 4.0 is no whole number", (3, 1, [4.0]))
+        said(OverflowError, "items[1].readers[1]: -4 is negative", (3, 1, [4, -4]))
+        said(OverflowError, f"items[1].readers[0]: {2**32} does not fit 32 bits", (3, 1, [2**32]))
+        said(TypeError, "items[1].size: 3.5 is no whole number", (3.5, 1, [4]))
 
 
 def put_item(item: Any) -> Any:

@@ -12,7 +12,7 @@ from typing import Any, Callable, List
 from unittest import mock
 
 import memplan
-from samples import ACROSS, EXTRA, ITEMS, OUT, PARENT, TASKS, Case
+from samples import ACROSS, EXTRA, FORK, FORKED, ITEMS, OUT, PARENT, TASKS, Case
 
 
 def core() -> memplan.Core:
@@ -34,6 +34,18 @@ class Calls(Case):
     def test_of_a_system(self) -> None:
         runs = memplan.Core.of_system(TASKS, ITEMS, [1, 2, 3, 4], 13, 2)
         self.assertEqual((runs.used, runs.activate(), runs.booked), (6, 1, 13))
+
+
+    def test_of_items_with_readers(self) -> None:
+        self.assertEqual(self.refused(memplan.Core.of_shared, FORK, FORKED, [1, 2, 3, 4], 21, 2), (5, 30, 0, 22))
+        runs = memplan.Core.of_shared(FORK, FORKED, [1, 2, 3, 4], 22, 2)
+        held, needed = [runs.used], []
+        while task := runs.activate():
+            self.assertTrue(runs.start(task))
+            needed.append(runs.used)
+            self.assertTrue(runs.finish(task) and runs.is_done(task))
+            held.append(runs.used)
+        self.assertEqual((held, needed), ([10, 13, 17, 12, 2], [19, 18, 22, 14]))
 
 
 def in_threads(work: Callable[[List[int]], None]) -> List[List[int]]:

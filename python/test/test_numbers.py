@@ -9,7 +9,7 @@ from typing import Any, Callable, Iterator, List, NamedTuple
 
 import memplan
 from memplan.admission import Admission, Graph
-from samples import ACROSS, ARROW, EXTRA, IN_TURN, ITEMS, OUT, PARENT, TASKS, Case, numpy, put
+from samples import ACROSS, ARROW, EXTRA, FORK, FORKED, IN_TURN, ITEMS, OUT, PARENT, TASKS, Case, numpy, put
 
 FRACTIONS = [2.9, 1.0, float("nan"), True, False, "7", None, Decimal(1), [1], (1,), 1j]
 if numpy:
@@ -72,6 +72,11 @@ SYSTEMS = [
     Place("items[0].from", 32, lambda it: replayed((6, it, 1))),
     Place("items[0].to", 32, lambda it: replayed((6, 0, it))),
     Place("order[0]", 32, lambda it: memplan.replay_system(TASKS, ITEMS, [it, 2, 3, 4])),
+    Place("tasks[1]", 64, lambda it: memplan.replay_shared(put(FORK, 1, it), FORKED, [1, 2, 3, 4])),
+    Place("items[0].size", 64, lambda it: memplan.replay_shared(FORK, put(FORKED, 0, (it, 0, [1, 2])), [1, 2, 3, 4])),
+    Place("items[0].from", 32, lambda it: memplan.replay_shared(FORK, put(FORKED, 0, (1, it, [1, 2])), [1, 2, 3, 4])),
+    Place("items[0].readers[1]", 32, lambda it: memplan.replay_shared(FORK, put(FORKED, 0, (1, 0, [1, it])), [1, 2, 3, 4])),
+    Place("order[0]", 32, lambda it: memplan.replay_shared(FORK, FORKED, [it, 2, 3, 4])),
 ]
 CORES = [
     Place("bound", 64, lambda it: memplan.Core.of_tree(PARENT, OUT, EXTRA, ACROSS, it, 2)),
@@ -79,6 +84,8 @@ CORES = [
     Place("order[4]", 32, lambda it: memplan.Core.of_tree(PARENT, OUT, EXTRA, put(ACROSS, 4, it), 11, 2)),
     Place("tasks[0]", 64, lambda it: memplan.Core.of_system([it], [], [1], 1, 2)),
     Place("items[0].to", 32, lambda it: memplan.Core.of_system([0], [(1, 0, it)], [1], 1, 2)),
+    Place("items[0].readers[0]", 32, lambda it: memplan.Core.of_shared([0], [(1, 0, [it])], [1], 1, 2)),
+    Place("bound", 64, lambda it: memplan.Core.of_shared([0], [], [1], it, 2)),
     Place("bound", 64, lambda it: memplan.Core.of_system([0], [], [1], it, 2)),
     Place("workers", 32, lambda it: memplan.Core.of_system([0], [], [1], 0, it)),
     Place("task", 32, lambda it: core().start(it)),

@@ -6,6 +6,11 @@ use Rattle.mp_system.specs.Traversal.{IsTraversal}
 use Rattle.mp_system.specs.declared.given.GivenItem.{GivenItem}
 use Rattle.mp_system.specs.declared.given.GivenTask.{GivenTask}
 use Rattle.mp_system.specs.Given.{system_given}
+use Rattle.shared_systems.specs.Bounds.{IsSharedSystem}
+use Rattle.shared_systems.specs.SharedMemory.{shared_peak_of}
+use Rattle.shared_systems.specs.SharedTraversal.{IsSharedTraversal}
+use Rattle.shared_systems.specs.declared.given.GivenSharedItem.{GivenSharedItem}
+use Rattle.shared_systems.specs.Given.{shared_system_given}
 use Rattle.sp_terms.specs.declared.position.Position.{Position}
 use Rattle.trees.specs.declared.node.Node.{Node}
 use Rattle.trees.specs.Tree.{IsTree, system_of_nodes}
@@ -51,6 +56,12 @@ pub record IsSystemReplayed (tasks : List GivenTask) (items : List GivenItem) (o
   pub system : IsSystem (system_given tasks items)
   pub traversal : IsTraversal (system_given tasks items) order
   pub peak_is : peak ≡ peak_of (system_given tasks items) order
+
+-- tasks, items and readers that are a system, and an order that is a traversal of it, with this peak
+pub record IsSharedReplayed (tasks : List GivenTask) (items : List GivenSharedItem) (readers order : List ℕ) (peak : ℕ) : Type 0 where
+  pub system : IsSharedSystem (shared_system_given tasks items readers)
+  pub traversal : IsSharedTraversal (shared_system_given tasks items readers) order
+  pub peak_is : peak ≡ shared_peak_of (shared_system_given tasks items readers) order
 
 -- ---- plans with claims
 

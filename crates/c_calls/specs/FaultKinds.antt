@@ -88,6 +88,21 @@ ends = 51
 abbrev pub item_size : ℕ
 item_size = 52
 
+abbrev pub many_uses : ℕ
+many_uses = 53
+
+abbrev pub counts : ℕ
+counts = 54
+
+abbrev pub readers : ℕ
+readers = 55
+
+abbrev pub apart : ℕ
+apart = 56
+
+abbrev pub rising : ℕ
+rising = 57
+
 abbrev pub base : ℕ
 base = 60
 

@@ -9,6 +9,9 @@ use Rattle.mp_system.specs.declared.judged.ItemTest.TheVariants as item_tests
 use Rattle.mp_system.specs.declared.judged.SystemRefusal.{SystemRefusal}
 use Rattle.mp_system.specs.declared.judged.SystemRefusal.TheVariants as systems
 use Rattle.mp_system.specs.declared.judged.TaskTest.TheVariants as task_tests
+use Rattle.shared_systems.specs.declared.judged.SharedItemTest.TheVariants as shared_tests
+use Rattle.shared_systems.specs.declared.judged.SharedRefusal.{SharedRefusal}
+use Rattle.shared_systems.specs.declared.judged.SharedRefusal.TheVariants as shared
 use Rattle.patterns.specs.declared.columns.ColumnsRefusal.{ColumnsRefusal}
 use Rattle.patterns.specs.declared.columns.ColumnsRefusal.TheVariants as columns
 use Rattle.permutations.specs.declared.numbers.PermRefusal.{PermRefusal}
@@ -65,6 +68,26 @@ of_system (systems.Item item_tests.Size i) = answer status.limit kinds.item_size
 of_system systems.Total = answer status.limit kinds.total 0 0
 of_system (systems.Share v) = answer status.format kinds.share v 0
 of_system systems.NoMemory = no_memory
+
+-- tasks, items and readers: `usage` where there are not as many readers as the items say, `format` where they are no system, `limit` where
+-- they pass one
+abbrev pub of_shared : SharedRefusal → Answer
+of_shared shared.ManyTasks = answer status.limit kinds.many_tasks 0 0
+of_shared shared.ManyItems = answer status.limit kinds.many_items 0 0
+of_shared shared.ManyUses = answer status.limit kinds.many_uses 0 0
+of_shared shared.Counts = answer status.usage kinds.counts 0 0
+of_shared (shared.Task task_tests.Time v) = answer status.format kinds.time v 0
+of_shared (shared.Task task_tests.Size v) = answer status.limit kinds.size v 0
+of_shared (shared.Task task_tests.LongTime v) = answer status.limit kinds.long_time v 0
+of_shared (shared.Item shared_tests.Producer i) = answer status.format kinds.ends i 0
+of_shared (shared.Item shared_tests.Readers i) = answer status.format kinds.readers i 0
+of_shared (shared.Item shared_tests.Apart i) = answer status.format kinds.apart i 0
+of_shared (shared.Item shared_tests.Rising i) = answer status.format kinds.rising i 0
+of_shared (shared.Item shared_tests.Size i) = answer status.limit kinds.item_size i 0
+of_shared shared.Total = answer status.limit kinds.total 0 0
+of_shared (shared.Cycle v) = answer status.format kinds.cycle v 0
+of_shared (shared.Share v) = answer status.format kinds.share v 0
+of_shared shared.NoMemory = no_memory
 
 -- an order that is no traversal: its first fault
 abbrev pub kind_of_order : OrderKind → ℕ
@@ -136,6 +159,7 @@ answer_to refusals.Shape = answer status.usage kinds.shape 0 0
 answer_to refusals.Workers = answer status.usage kinds.workers 0 0
 answer_to (refusals.Nodes refusal) = of_nodes refusal
 answer_to (refusals.System refusal) = of_system refusal
+answer_to (refusals.Shared refusal) = of_shared refusal
 answer_to (refusals.Replay refusal) = of_replay refusal
 answer_to (refusals.Core refusal) = of_core refusal
 answer_to (refusals.Spill refusal) = of_spill refusal

@@ -14,6 +14,12 @@ use Rattle.trees.specs.Tree.{IsTree, system_of_nodes}
 use Rattle.plans.specs.Plan.{PlanValue, IsClaimWithin, IsPlan, RiseFrom}
 use Rattle.claim_check.specs.Accepted.{IsObjection}
 use Rattle.claim_check.specs.declared.objection.Objection.{Objection}
+use Rattle.shared_systems.specs.Bounds.{IsSharedSystem}
+use Rattle.shared_systems.specs.OneReader.{shared_of}
+use Rattle.shared_systems.specs.SharedTraversal.{IsSharedOrderRefusal}
+use Rattle.shared_systems.specs.declared.given.GivenSharedItem.{GivenSharedItem}
+use Rattle.shared_systems.specs.Given.{shared_system_given}
+use Rattle.shared_systems.specs.Judged.{IsSharedRefusal}
 use Rattle.activation.specs.Refusal.{IsCoreRefusal}
 use Rattle.spill_plan.specs.Refusal.{IsSpillRefusal}
 use Rattle.least_peak.specs.Problem.{IsTermOf}
@@ -128,7 +134,7 @@ abbrev pub IsBeginRefusal : List Node → List ℕ → ℕ → ℕ → Refusal �
 IsBeginRefusal nodes order bound workers refusals.Workers = (1 ≤ workers) × (workers ≤ most_workers) → ⊥
 IsBeginRefusal nodes order bound workers (refusals.Nodes refusal) = IsNodesRefusal nodes refusal
 IsBeginRefusal nodes order bound workers (refusals.Core refusal) =
-    IsTree nodes × IsCoreRefusal (system_of_nodes nodes) order bound refusal
+    IsTree nodes × IsCoreRefusal (shared_of (system_of_nodes nodes)) order bound refusal
 IsBeginRefusal nodes order bound workers refusals.NoMemory = Unit {0}
 IsBeginRefusal nodes order bound workers other = ⊥
 
@@ -147,6 +153,27 @@ abbrev pub IsSystemBeginRefusal : List GivenTask → List GivenItem → List ℕ
 IsSystemBeginRefusal tasks items order bound workers refusals.Workers = (1 ≤ workers) × (workers ≤ most_workers) → ⊥
 IsSystemBeginRefusal tasks items order bound workers (refusals.System refusal) = IsSystemRefusal tasks items refusal
 IsSystemBeginRefusal tasks items order bound workers (refusals.Core refusal) =
-    IsSystem (system_given tasks items) × IsCoreRefusal (system_given tasks items) order bound refusal
+    IsSystem (system_given tasks items) × IsCoreRefusal (shared_of (system_given tasks items)) order bound refusal
 IsSystemBeginRefusal tasks items order bound workers refusals.NoMemory = Unit {0}
 IsSystemBeginRefusal tasks items order bound workers other = ⊥
+
+-- ---- systems in which an item may have any number of readers
+
+-- the replay of an order
+abbrev pub IsSharedReplayRefusal : List GivenTask → List GivenSharedItem → List ℕ → List ℕ → Refusal → Type 0
+IsSharedReplayRefusal tasks items readers order (refusals.Shared refusal) = IsSharedRefusal tasks items readers refusal
+IsSharedReplayRefusal tasks items readers order (refusals.Replay refusal) =
+    IsSharedSystem (shared_system_given tasks items readers)
+    × IsSharedOrderRefusal (shared_system_given tasks items readers) order refusal
+IsSharedReplayRefusal tasks items readers order refusals.NoMemory = Unit {0}
+IsSharedReplayRefusal tasks items readers order other = ⊥
+
+-- a core for an order of the tasks, a bound and so many workers
+abbrev pub IsSharedBeginRefusal : List GivenTask → List GivenSharedItem → List ℕ → List ℕ → ℕ → ℕ → Refusal → Type 0
+IsSharedBeginRefusal tasks items readers order bound workers refusals.Workers = (1 ≤ workers) × (workers ≤ most_workers) → ⊥
+IsSharedBeginRefusal tasks items readers order bound workers (refusals.Shared refusal) = IsSharedRefusal tasks items readers refusal
+IsSharedBeginRefusal tasks items readers order bound workers (refusals.Core refusal) =
+    IsSharedSystem (shared_system_given tasks items readers)
+    × IsCoreRefusal (shared_system_given tasks items readers) order bound refusal
+IsSharedBeginRefusal tasks items readers order bound workers refusals.NoMemory = Unit {0}
+IsSharedBeginRefusal tasks items readers order bound workers other = ⊥

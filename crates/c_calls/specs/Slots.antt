@@ -4,6 +4,8 @@ use Rattle.std.specs.Prelude.{List}
 use Rattle.std.specs.Option.{option_map_or}
 use Rattle.limits.specs.Limits.{most_workers}
 use Rattle.mp_system.specs.System.{TaskSystem}
+use Rattle.shared_systems.specs.OneReader.{shared_of}
+use Rattle.shared_systems.specs.Shared.{SharedTaskSystem}
 use Rattle.activation.specs.Machine.{CoreValue, Setting, IsSetting, MayActivate, MayStart, MayFinish, state_after, start_state, used_memory}
 use Rattle.activation.specs.Machine.{booked_memory, is_done}
 use Rattle.activation.specs.declared.events.EventKind.{EventKind}
@@ -18,8 +20,12 @@ pub record SlotValue : Type 0 where
 abbrev pub empty : SlotValue
 empty = record { core = None }
 
-abbrev pub core_setting : TaskSystem → List ℕ → ℕ → ℕ → Setting
+abbrev pub core_setting : SharedTaskSystem → List ℕ → ℕ → ℕ → Setting
 core_setting system order bound workers = record { system = system; order = order; bound = bound; workers = workers }
+
+-- that of a system in which each item has at most one consumer
+abbrev pub own_setting : TaskSystem → List ℕ → ℕ → ℕ → Setting
+own_setting system order bound workers = core_setting (shared_of system) order bound workers
 
 abbrev pub core_at_start : Setting → CoreValue
 core_at_start setting = record { setting = setting; state = start_state setting }

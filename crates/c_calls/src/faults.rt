@@ -2,8 +2,9 @@
 
 ghost use Rattle.std.specs.Prelude.{◌≡◌};
 ghost use Rattle.mp_system.specs.declared.judged.SystemRefusal.TheVariants as systems;
+ghost use Rattle.shared_systems.specs.declared.judged.SharedRefusal.TheVariants as shared;
 ghost use Rattle.trees.specs.declared.judged.NodesRefusal.TheVariants as nodes;
-ghost use Rattle.c_calls.specs.Faults.{answer, answer_to, of_nodes, of_system, of_replay, of_order, of_core, of_spill, of_plan};
+ghost use Rattle.c_calls.specs.Faults.{answer, answer_to, of_nodes, of_system, of_shared, of_replay, of_order, of_core, of_spill, of_plan};
 ghost use Rattle.c_calls.specs.Faults.{of_objection, of_columns, of_perm, of_degree};
 
 use crate::refusal::{PlanFault, Refusal};
@@ -14,6 +15,7 @@ use mp_system::{ItemTest, OrderFault, OrderKind, ReplayRefusal, SystemRefusal, T
 use ordering::MindegRefusal;
 use patterns::ColumnsRefusal;
 use permutations::PermRefusal;
+use shared_systems::{SharedItemTest, SharedRefusal};
 use spill_plan::SpillRefusal;
 use trees::{NodeTest, NodesRefusal};
 
@@ -112,6 +114,37 @@ fn of_system(refusal: SystemRefusal) -> Answer
         SystemRefusal::Total => say(statuses::LIMIT, kinds::TOTAL, 0, 0),
         SystemRefusal::Share(task) => say(statuses::FORMAT, kinds::SHARE, u64::from(task), 0),
         SystemRefusal::NoMemory => no_memory(),
+    }
+}
+
+// An item that any number of tasks may read, and that fails a test.
+fn of_shared_item(test: SharedItemTest, item: u32) -> Answer
+    ensures { result ≡ of_shared (shared.Item test item) }
+{
+    let at = u64::from(item);
+    match test {
+        SharedItemTest::Producer => say(statuses::FORMAT, kinds::ENDS, at, 0),
+        SharedItemTest::Readers => say(statuses::FORMAT, kinds::READERS, at, 0),
+        SharedItemTest::Apart => say(statuses::FORMAT, kinds::APART, at, 0),
+        SharedItemTest::Rising => say(statuses::FORMAT, kinds::RISING, at, 0),
+        SharedItemTest::Size => say(statuses::LIMIT, kinds::ITEM_SIZE, at, 0),
+    }
+}
+
+fn of_shared(refusal: SharedRefusal) -> Answer
+    ensures { result ≡ of_shared refusal }
+{
+    match refusal {
+        SharedRefusal::ManyTasks => say(statuses::LIMIT, kinds::MANY_TASKS, 0, 0),
+        SharedRefusal::ManyItems => say(statuses::LIMIT, kinds::MANY_ITEMS, 0, 0),
+        SharedRefusal::ManyUses => say(statuses::LIMIT, kinds::MANY_USES, 0, 0),
+        SharedRefusal::Counts => say(statuses::USAGE, kinds::COUNTS, 0, 0),
+        SharedRefusal::Task { test, task } => of_task(test, task),
+        SharedRefusal::Item { test, item } => of_shared_item(test, item),
+        SharedRefusal::Total => say(statuses::LIMIT, kinds::TOTAL, 0, 0),
+        SharedRefusal::Cycle(task) => say(statuses::FORMAT, kinds::CYCLE, u64::from(task), 0),
+        SharedRefusal::Share(task) => say(statuses::FORMAT, kinds::SHARE, u64::from(task), 0),
+        SharedRefusal::NoMemory => no_memory(),
     }
 }
 
@@ -244,6 +277,7 @@ fn answer_of(refusal: Refusal) -> Answer
         Refusal::Workers => say(statuses::USAGE, kinds::WORKERS, 0, 0),
         Refusal::Nodes(refusal) => of_nodes(refusal),
         Refusal::System(refusal) => of_system(refusal),
+        Refusal::Shared(refusal) => of_shared(refusal),
         Refusal::Replay(refusal) => of_replay(refusal),
         Refusal::Core(refusal) => of_core(refusal),
         Refusal::Spill(refusal) => of_spill(refusal),

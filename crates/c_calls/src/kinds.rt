@@ -58,6 +58,16 @@ pub const ENDS: u32 = 51;
 
 pub const ITEM_SIZE: u32 = 52;
 
+pub const MANY_USES: u32 = 53;
+
+pub const COUNTS: u32 = 54;
+
+pub const READERS: u32 = 55;
+
+pub const APART: u32 = 56;
+
+pub const RISING: u32 = 57;
+
 pub const BASE: u32 = 60;
 
 pub const NO_COLUMN: u32 = 61;

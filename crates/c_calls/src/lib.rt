@@ -23,5 +23,5 @@ pub use faults::Fault;
 pub use fronts::{GivenOptions, matrix_fronts};
 pub use orders::{best_postorder, plan_tree};
 pub use refusal::{PlanFault, Refusal};
-pub use replays::{replay_system, replay_tree, spill_tree};
+pub use replays::{replay_shared, replay_system, replay_tree, spill_tree};
 pub use slot::Slot;

@@ -9,6 +9,7 @@ use mp_system::{ReplayRefusal, SystemRefusal};
 use ordering::MindegRefusal;
 use patterns::ColumnsRefusal;
 use permutations::PermRefusal;
+use shared_systems::SharedRefusal;
 use spill_plan::SpillRefusal;
 use std::alloc::AllocError;
 use trees::NodesRefusal;
@@ -43,6 +44,8 @@ pub enum Refusal {
     Nodes(NodesRefusal),
     /// The tasks and items are no system.
     System(SystemRefusal),
+    /// The tasks, items and readers are no system.
+    Shared(SharedRefusal),
     /// The order is no traversal.
     Replay(ReplayRefusal),
     /// There is no core for the order and the bound.
@@ -84,6 +87,14 @@ impl From<SystemRefusal> for Refusal {
 
     fn from(refusal: SystemRefusal) -> Refusal {
         Refusal::System(refusal)
+    }
+}
+
+impl From<SharedRefusal> for Refusal {
+    ghost from_gives = { λ r e. e ≡ refusals.Shared r };
+
+    fn from(refusal: SharedRefusal) -> Refusal {
+        Refusal::Shared(refusal)
     }
 }
 

@@ -3,14 +3,15 @@
 ghost use Rattle.std.specs.Prelude.{◌≡◌, ◌≢◌, length, IfOk, IfErr};
 ghost use Rattle.trees.specs.Tree.{IsTree, system_of_nodes};
 ghost use Rattle.trees.specs.Judged.{IsNodesRefusal};
-ghost use Rattle.c_calls.specs.Answers.{IsReplayed, IsTreeSpilled, IsSystemReplayed};
+ghost use Rattle.c_calls.specs.Answers.{IsReplayed, IsTreeSpilled, IsSystemReplayed, IsSharedReplayed};
 ghost use Rattle.c_calls.specs.Faults.{IsRefusedFor};
-ghost use Rattle.c_calls.specs.Refusals.{IsReplayRefusal, IsSpillCallRefusal, IsSystemReplayRefusal};
+ghost use Rattle.c_calls.specs.Refusals.{IsReplayRefusal, IsSpillCallRefusal, IsSystemReplayRefusal, IsSharedReplayRefusal};
 
 use crate::faults::{Fault, refuse};
 use crate::orders::check_room;
 use crate::refusal::Refusal;
 use mp_system::{GivenItem, GivenTask, System, replay, system_of_arrays};
+use shared_systems::{GivenSharedItem, shared_system_of_arrays};
 use spill_plan::{Spill, spill};
 use std::alloc::Global;
 use trees::{Node, NodesRefusal, system_of_tree, tree_of_nodes};
@@ -132,6 +133,47 @@ pub fn replay_system(
     ensures no_fault { result ≡ 0 → fault.new ≡ fault.old }
 {
     match peak_of_system(alloc, tasks, items, order) {
+        Ok(found) => {
+            *peak = found;
+            0
+        }
+        Err(refusal) => refuse(refusal, fault),
+    }
+}
+
+fn peak_of_shared(
+    alloc: Global,
+    tasks: &[GivenTask],
+    items: &[GivenSharedItem],
+    readers: &[u32],
+    order: &[u32],
+) -> Result<u64, Refusal>
+    ensures replayed { IfOk result (IsSharedReplayed tasks.now items.now readers.now order.now) }
+    ensures refused { IfErr result (IsSharedReplayRefusal tasks.now items.now readers.now order.now) }
+{
+    let system = shared_system_of_arrays(alloc, tasks, items, readers)?;
+    let peak = system.peak(alloc, order)?;
+    Ok(peak)
+}
+
+/// The peak of an order of tasks that hand data items to each other, each to any number of readers, or the first place at which it is no
+/// traversal.
+pub fn replay_shared(
+    alloc: Global,
+    tasks: &[GivenTask],
+    items: &[GivenSharedItem],
+    readers: &[u32],
+    order: &[u32],
+    peak: &mut u64,
+    fault: &mut Fault,
+) -> u32
+    // 0: the order is a traversal of the system of these tasks, items and readers, with this peak
+    ensures replayed { result ≡ 0 → IsSharedReplayed tasks.now items.now readers.now order.now peak.new }
+    ensures refused { result ≢ 0 → IsRefusedFor (IsSharedReplayRefusal tasks.now items.now readers.now order.now) result fault.new }
+    ensures unchanged { result ≢ 0 → peak.new ≡ peak.old }
+    ensures no_fault { result ≡ 0 → fault.new ≡ fault.old }
+{
+    match peak_of_shared(alloc, tasks, items, readers, order) {
         Ok(found) => {
             *peak = found;
             0

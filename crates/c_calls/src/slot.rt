@@ -4,12 +4,14 @@ ghost use Rattle.std.specs.Prelude.{◌≡◌, ◌↔◌, ◌≤◌, IfOk, IfErr
 ghost use Rattle.limits.specs.Limits.{most_workers};
 ghost use Rattle.mp_system.specs.System.{IsSystem};
 ghost use Rattle.mp_system.specs.Given.{system_given};
+ghost use Rattle.shared_systems.specs.Bounds.{IsSharedSystem};
+ghost use Rattle.shared_systems.specs.Given.{shared_system_given};
 ghost use Rattle.activation.specs.Machine.{IsSetting};
 ghost use Rattle.activation.specs.declared.events.EventKind.TheVariants.{Start, Finish};
 ghost use Rattle.trees.specs.Tree.{IsTree, system_of_nodes};
-ghost use Rattle.c_calls.specs.Refusals.{IsBeginRefusal, IsSystemBeginRefusal};
-ghost use Rattle.c_calls.specs.Slots.{empty, core_setting, core_at_start, begun, IsCoreBegun, activated, IsActivated, stepped, IsStarted};
-ghost use Rattle.c_calls.specs.Slots.{IsFinished, IsDone, used_in, booked_in};
+ghost use Rattle.c_calls.specs.Refusals.{IsBeginRefusal, IsSystemBeginRefusal, IsSharedBeginRefusal};
+ghost use Rattle.c_calls.specs.Slots.{empty, core_setting, own_setting, core_at_start, begun, IsCoreBegun, activated, IsActivated, stepped};
+ghost use Rattle.c_calls.specs.Slots.{IsStarted, IsFinished, IsDone, used_in, booked_in};
 
 use crate::faults::{Fault, refuse};
 use crate::refusal::Refusal;
@@ -17,6 +19,7 @@ use crate::replays::system_of;
 use activation::Core;
 use limits::MOST_WORKERS;
 use mp_system::{GivenItem, GivenTask, system_of_arrays};
+use shared_systems::{GivenSharedItem, shared_system_of_arrays};
 use std::alloc::Global;
 use std::marker::Model;
 use trees::Node;
@@ -60,7 +63,7 @@ fn core_of_tree(
     bound: u64,
     workers: u32,
 ) -> Result<Core, Refusal>
-    ensures core { IfOk result (λ core. core ≡ core_at_start (core_setting (system_of_nodes nodes.now) order.now bound workers)) }
+    ensures core { IfOk result (λ core. core ≡ core_at_start (own_setting (system_of_nodes nodes.now) order.now bound workers)) }
     ensures tree { IfOk result (λ _. IsTree nodes.now) }
     ensures setting { IfOk result (λ core. IsSetting core.setting) }
     ensures few_workers { IfOk result (λ _. workers ≤ most_workers) }
@@ -70,7 +73,7 @@ fn core_of_tree(
         return Err(Refusal::Workers);
     }
     let system = system_of(alloc, nodes)?;
-    let core = Core::new(alloc, &system, order, bound, workers)?;
+    let core = Core::of_system(alloc, &system, order, bound, workers)?;
     Ok(core)
 }
 
@@ -83,9 +86,9 @@ pub fn begin(
     workers: u32,
     fault: &mut Fault,
 ) -> u32
-    ensures { (slot.new ≡ begun slot.old (core_setting (system_of_nodes nodes.now) order.now bound workers) result)
+    ensures { (slot.new ≡ begun slot.old (own_setting (system_of_nodes nodes.now) order.now bound workers) result)
         × IsCoreBegun (IsTree nodes.now) (IsBeginRefusal nodes.now order.now bound workers)
-        (core_setting (system_of_nodes nodes.now) order.now bound workers) result fault.old fault.new }
+        (own_setting (system_of_nodes nodes.now) order.now bound workers) result fault.old fault.new }
 {
     match core_of_tree(slot.alloc, nodes, order, bound, workers) {
         Ok(core) => {
@@ -104,7 +107,7 @@ fn core_of_system(
     bound: u64,
     workers: u32,
 ) -> Result<Core, Refusal>
-    ensures core { IfOk result (λ core. core ≡ core_at_start (core_setting (system_given tasks.now items.now) order.now bound workers)) }
+    ensures core { IfOk result (λ core. core ≡ core_at_start (own_setting (system_given tasks.now items.now) order.now bound workers)) }
     ensures system { IfOk result (λ _. IsSystem (system_given tasks.now items.now)) }
     ensures setting { IfOk result (λ core. IsSetting core.setting) }
     ensures few_workers { IfOk result (λ _. workers ≤ most_workers) }
@@ -114,7 +117,7 @@ fn core_of_system(
         return Err(Refusal::Workers);
     }
     let system = system_of_arrays(alloc, tasks, items)?;
-    let core = Core::new(alloc, &system, order, bound, workers)?;
+    let core = Core::of_system(alloc, &system, order, bound, workers)?;
     Ok(core)
 }
 
@@ -128,11 +131,60 @@ pub fn begin_system(
     workers: u32,
     fault: &mut Fault,
 ) -> u32
-    ensures { (slot.new ≡ begun slot.old (core_setting (system_given tasks.now items.now) order.now bound workers) result)
+    ensures { (slot.new ≡ begun slot.old (own_setting (system_given tasks.now items.now) order.now bound workers) result)
         × IsCoreBegun (IsSystem (system_given tasks.now items.now)) (IsSystemBeginRefusal tasks.now items.now order.now bound workers)
-        (core_setting (system_given tasks.now items.now) order.now bound workers) result fault.old fault.new }
+        (own_setting (system_given tasks.now items.now) order.now bound workers) result fault.old fault.new }
 {
     match core_of_system(slot.alloc, tasks, items, order, bound, workers) {
+        Ok(core) => {
+            slot.core = Some(core);
+            0
+        }
+        Err(refusal) => refuse(refusal, fault),
+    }
+}
+
+fn core_of_shared(
+    alloc: Global,
+    tasks: &[GivenTask],
+    items: &[GivenSharedItem],
+    readers: &[u32],
+    order: &[u32],
+    bound: u64,
+    workers: u32,
+) -> Result<Core, Refusal>
+    ensures core { IfOk result (λ core.
+        core ≡ core_at_start (core_setting (shared_system_given tasks.now items.now readers.now) order.now bound workers)) }
+    ensures system { IfOk result (λ _. IsSharedSystem (shared_system_given tasks.now items.now readers.now)) }
+    ensures setting { IfOk result (λ core. IsSetting core.setting) }
+    ensures few_workers { IfOk result (λ _. workers ≤ most_workers) }
+    ensures refused { IfErr result (IsSharedBeginRefusal tasks.now items.now readers.now order.now bound workers) }
+{
+    if workers == 0 || workers > MOST_WORKERS {
+        return Err(Refusal::Workers);
+    }
+    let system = shared_system_of_arrays(alloc, tasks, items, readers)?;
+    let core = Core::new(alloc, &system, order, bound, workers)?;
+    Ok(core)
+}
+
+/// Puts a core of a system in which an item may have any number of readers at its start into the slot: 0, or why there is none.
+pub fn begin_shared(
+    slot: &mut Slot,
+    tasks: &[GivenTask],
+    items: &[GivenSharedItem],
+    readers: &[u32],
+    order: &[u32],
+    bound: u64,
+    workers: u32,
+    fault: &mut Fault,
+) -> u32
+    ensures { (slot.new ≡ begun slot.old (core_setting (shared_system_given tasks.now items.now readers.now) order.now bound workers) result)
+        × IsCoreBegun (IsSharedSystem (shared_system_given tasks.now items.now readers.now))
+        (IsSharedBeginRefusal tasks.now items.now readers.now order.now bound workers)
+        (core_setting (shared_system_given tasks.now items.now readers.now) order.now bound workers) result fault.old fault.new }
+{
+    match core_of_shared(slot.alloc, tasks, items, readers, order, bound, workers) {
         Ok(core) => {
             slot.core = Some(core);
             0

@@ -3,9 +3,11 @@
 mod arrays;
 mod cores;
 mod fronts;
+mod readers;
 
 use c_calls::Fault;
 use mp_system::{GivenItem, GivenTask};
+use shared_systems::GivenSharedItem;
 use trees::Node;
 
 fn node(parent: u32, out: u64, extra: u64) -> Node {
@@ -63,4 +65,29 @@ fn diamond_items() -> [GivenItem; 6] {
         item(5, 3, 4),
         item(1, 4, 0),
     ]
+}
+
+// Three tasks that read one input of 10, and one that takes the 3, 4 and 5 that they leave.
+fn fork_tasks() -> [GivenTask; 4] {
+    [task(6), task(1), task(0), task(0)]
+}
+
+fn fork_items() -> [GivenSharedItem; 5] {
+    [
+        shared_item(10, 0, 3),
+        shared_item(3, 1, 1),
+        shared_item(4, 2, 1),
+        shared_item(5, 3, 1),
+        shared_item(2, 4, 0),
+    ]
+}
+
+const FORK_READERS: [u32; 6] = [1, 2, 3, 4, 4, 4];
+
+fn shared_item(size: u64, from: u32, readers: u32) -> GivenSharedItem {
+    GivenSharedItem {
+        size,
+        from,
+        readers,
+    }
 }

@@ -1,17 +1,18 @@
 //! The calls over arrays.
 
 ghost use Rattle.std.specs.Prelude.{◌≡◌, ◌≢◌, ◌≤◌, length, take, drop};
-ghost use Rattle.c_calls.specs.Answers.{IsBestOrder, IsBestPost, IsReplayed, IsTreeSpilled, IsTreeCertified, IsSystemReplayed};
+ghost use Rattle.c_calls.specs.Answers.{IsBestOrder, IsBestPost, IsReplayed, IsTreeSpilled, IsTreeCertified, IsSystemReplayed, IsSharedReplayed};
 ghost use Rattle.c_calls.specs.Faults.{IsRefusedFor};
 ghost use Rattle.c_calls.specs.Fronts.{AreFronts, IsMatrixFrontsRefusal, matrix_given, options_given};
 ghost use Rattle.c_calls.specs.Refusals.{IsPlanningRefusal, IsReplayRefusal, IsSpillCallRefusal, IsCheckRefusal, IsCertifyRefusal};
-ghost use Rattle.c_calls.specs.Refusals.{IsSystemReplayRefusal};
+ghost use Rattle.c_calls.specs.Refusals.{IsSystemReplayRefusal, IsSharedReplayRefusal};
 
 use c_calls::{
     Claim, Fault, GivenOptions, best_postorder, certify_tree, check_tree, matrix_fronts, plan_tree,
-    replay_system, replay_tree, spill_tree,
+    replay_shared, replay_system, replay_tree, spill_tree,
 };
 use mp_system::{GivenItem, GivenTask};
+use shared_systems::GivenSharedItem;
 use std::alloc::Global;
 use trees::Node;
 
@@ -150,6 +151,27 @@ pub extern "C" fn memplan_replay_system(
     ensures no_fault { result ≡ 0 → fault.new ≡ fault.old }
 {
     replay_system(alloc, tasks, items, order, peak, fault)
+}
+
+/// The peak of an order of tasks that hand data items to each other, each to any number of readers, or the first place at which it is no
+/// traversal. The readers of all items stand in one array, item by item.
+#[unsafe(no_mangle)]
+pub extern "C" fn memplan_replay_shared(
+    alloc: Global,
+    tasks: &[GivenTask],
+    items: &[GivenSharedItem],
+    readers: &[u32],
+    order: &[u32],
+    peak: &mut u64,
+    fault: &mut Fault,
+) -> u32
+    // 0: the order is a traversal of the system of these tasks, items and readers, with this peak
+    ensures replayed { result ≡ 0 → IsSharedReplayed tasks.now items.now readers.now order.now peak.new }
+    ensures refused { result ≢ 0 → IsRefusedFor (IsSharedReplayRefusal tasks.now items.now readers.now order.now) result fault.new }
+    ensures unchanged { result ≢ 0 → peak.new ≡ peak.old }
+    ensures no_fault { result ≡ 0 → fault.new ≡ fault.old }
+{
+    replay_shared(alloc, tasks, items, readers, order, peak, fault)
 }
 
 /// The tree of the fronts of a matrix that is eliminated in an order, or in that of minimum degree where none is given, at the front of the

@@ -6,20 +6,23 @@ ghost use Rattle.std.specs.Ptr.{lies_at, room_at};
 ghost use Rattle.activation.specs.declared.events.EventKind.TheVariants.{Start, Finish};
 ghost use Rattle.mp_system.specs.System.{IsSystem};
 ghost use Rattle.mp_system.specs.Given.{system_given};
+ghost use Rattle.shared_systems.specs.Bounds.{IsSharedSystem};
+ghost use Rattle.shared_systems.specs.Given.{shared_system_given};
 ghost use Rattle.trees.specs.Tree.{IsTree, system_of_nodes};
-ghost use Rattle.c_calls.specs.Refusals.{IsBeginRefusal, IsSystemBeginRefusal};
-ghost use Rattle.c_calls.specs.Slots.{SlotValue, empty, core_setting, begun, IsCoreBegun, activated, IsActivated, stepped, IsStarted};
-ghost use Rattle.c_calls.specs.Slots.{IsFinished, IsDone, used_in, booked_in};
+ghost use Rattle.c_calls.specs.Refusals.{IsBeginRefusal, IsSystemBeginRefusal, IsSharedBeginRefusal};
+ghost use Rattle.c_calls.specs.Slots.{SlotValue, empty, core_setting, own_setting, begun, IsCoreBegun, activated, IsActivated, stepped};
+ghost use Rattle.c_calls.specs.Slots.{IsStarted, IsFinished, IsDone, used_in, booked_in};
 ghost use Rattle.c_calls.specs.contracts.slot.Slot.{the_row};
 ghost use prog.Memory.{size, capped};
 ghost use denote.Param.{layout};
 
 use c_calls::Fault;
 use c_calls::slot::{
-    Slot, activate, begin, begin_system, booked, end, finish, is_done, is_startable, make, start,
-    used,
+    Slot, activate, begin, begin_shared, begin_system, booked, end, finish, is_done, is_startable,
+    make, start, used,
 };
 use mp_system::{GivenItem, GivenTask};
+use shared_systems::GivenSharedItem;
 use std::alloc::Global;
 use trees::Node;
 
@@ -69,9 +72,9 @@ pub unsafe extern "C" fn memplan_core_begin(
 ) -> u32
     ghost held: { SlotValue }
     requires* { sem 𝓛 (lies_at the_row full_share slot held) }
-    ensures* { sem 𝓛 (lies_at the_row full_share slot (begun held (core_setting (system_of_nodes nodes.now) order.now bound workers) result))
+    ensures* { sem 𝓛 (lies_at the_row full_share slot (begun held (own_setting (system_of_nodes nodes.now) order.now bound workers) result))
         ∗ ⌜ IsCoreBegun (IsTree nodes.now) (IsBeginRefusal nodes.now order.now bound workers)
-        (core_setting (system_of_nodes nodes.now) order.now bound workers) result fault.old fault.new ⌝ }
+        (own_setting (system_of_nodes nodes.now) order.now bound workers) result fault.old fault.new ⌝ }
 {
     begin(
         &mut *(slot as *mut Slot),
@@ -97,14 +100,47 @@ pub unsafe extern "C" fn memplan_core_begin_system(
     ghost held: { SlotValue }
     requires* { sem 𝓛 (lies_at the_row full_share slot held) }
     ensures* { sem 𝓛 (lies_at the_row full_share slot
-        (begun held (core_setting (system_given tasks.now items.now) order.now bound workers) result))
+        (begun held (own_setting (system_given tasks.now items.now) order.now bound workers) result))
         ∗ ⌜ IsCoreBegun (IsSystem (system_given tasks.now items.now)) (IsSystemBeginRefusal tasks.now items.now order.now bound workers)
-        (core_setting (system_given tasks.now items.now) order.now bound workers) result fault.old fault.new ⌝ }
+        (own_setting (system_given tasks.now items.now) order.now bound workers) result fault.old fault.new ⌝ }
 {
     begin_system(
         &mut *(slot as *mut Slot),
         tasks,
         items,
+        order,
+        bound,
+        workers,
+        fault,
+    )
+}
+
+/// Puts a core for a system in which an item may have any number of readers at its start into the memory: 0, or why there is none. The
+/// readers of all items stand in one array, item by item.
+#[unsafe(no_mangle)]
+pub unsafe extern "C" fn memplan_core_begin_shared(
+    slot: *mut Handle,
+    tasks: &[GivenTask],
+    items: &[GivenSharedItem],
+    readers: &[u32],
+    order: &[u32],
+    bound: u64,
+    workers: u32,
+    fault: &mut Fault,
+) -> u32
+    ghost held: { SlotValue }
+    requires* { sem 𝓛 (lies_at the_row full_share slot held) }
+    ensures* { sem 𝓛 (lies_at the_row full_share slot
+        (begun held (core_setting (shared_system_given tasks.now items.now readers.now) order.now bound workers) result))
+        ∗ ⌜ IsCoreBegun (IsSharedSystem (shared_system_given tasks.now items.now readers.now))
+        (IsSharedBeginRefusal tasks.now items.now readers.now order.now bound workers)
+        (core_setting (shared_system_given tasks.now items.now readers.now) order.now bound workers) result fault.old fault.new ⌝ }
+{
+    begin_shared(
+        &mut *(slot as *mut Slot),
+        tasks,
+        items,
+        readers,
         order,
         bound,
         workers,

@@ -16,7 +16,7 @@ use Rattle.mp_system.specs.contracts.given.GivenItem.{the_row as ItemRow}
 use Rattle.c_calls.specs.Refusals.{IsSystemBeginRefusal}
 use Rattle.c_calls.specs.declared.faults.Fault.{Fault}
 use Rattle.c_calls.specs.contracts.faults.Fault.{the_row as FaultRow}
-use Rattle.c_calls.specs.Slots.{SlotValue, core_setting, begun, IsCoreBegun}
+use Rattle.c_calls.specs.Slots.{SlotValue, own_setting, begun, IsCoreBegun}
 use Rattle.c_calls.specs.contracts.slot.Slot.{the_row as R}
 use Rattle.memplan_c.specs.contracts.cores.memplan_core_begin_system as f
 use Rattle.memplan_c.proofs.cores.memplan_core_begin_system.Statement.{statement}
@@ -159,9 +159,9 @@ memplan_core_begin_system_spec 𝓤 𝓛 𝓜 𝓡 wired =
     (and_then ! (get ! refl) (and_then ! (get ! refl) (and_then ! (get ! refl) (and_then ! (get ! refl) (no_more !)))))))) (λ v.
     use1 𝓛 (later (some (λ (u : ℕ). ((‵ (flft (α ∷ []) full_share) ⊛ toks) ⊛ ‵ (u32.own_val u (v ∷ []))) ⊛
     some (λ (ws : SlotValue × (Unit {0} × (Unit {0} × (Unit {0} × (Unit {0} × (Unit {0} × (Fault × Unit {0}))))))).
-    ‵ (lasts g.ended z.0.0 z.0.3 ws) ⊛ raw (fact 𝓤 ((ws.0 ≡ begun held (core_setting (system_given p0.now p1.now) p2.now p3 p4) u)
+    ‵ (lasts g.ended z.0.0 z.0.3 ws) ⊛ raw (fact 𝓤 ((ws.0 ≡ begun held (own_setting (system_given p0.now p1.now) p2.now p3 p4) u)
     × (IsCoreBegun (IsSystem (system_given p0.now p1.now)) (IsSystemBeginRefusal p0.now p1.now p2.now p3 p4)
-    (core_setting (system_given p0.now p1.now) p2.now p3 p4) u p5.now ws.1.1.1.1.1.1.0)))))))
+    (own_setting (system_given p0.now p1.now) p2.now p3 p4) u p5.now ws.1.1.1.1.1.1.0)))))))
     (id⊢ 𝓤 _) $
     await ! tt $ pick ! (λ u. split ! $ split ! $ split ! $ lft_end ! tt $ move ! (2 ∷ []) $
     peeks ! u32 (Is u32) (shows 𝓛 u32) u (v ∷ []) (λ is. lands_as ! refl refl ((uint_Lawful 𝓛 w32).typed u _ is).0 $
@@ -170,8 +170,8 @@ memplan_core_begin_system_spec 𝓤 𝓛 𝓜 𝓡 wired =
     rewrite ! 0 (λ (m : SlotValue). ‵ (fres γ (R.coded.code m))) facts.0 refl $
     -- [the last value; its borrow; what the references leave; the result; the end of α; the tokens; what the lender keeps]
     move ! (4 ∷ 6 ∷ 0 ∷ []) $
-    use3 𝓛 (later (‵ (lies_at R full_share (block_ptr b o) (begun held (core_setting (system_given p0.now p1.now) p2.now p3 p4) u))))
-    (ref_back 𝓛 R (α ∷ []) γ (begun held (core_setting (system_given p0.now p1.now) p2.now p3 p4) u) b o) $
+    use3 𝓛 (later (‵ (lies_at R full_share (block_ptr b o) (begun held (own_setting (system_given p0.now p1.now) p2.now p3 p4) u))))
+    (ref_back 𝓛 R (α ∷ []) γ (begun held (own_setting (system_given p0.now p1.now) p2.now p3 p4) u) b o) $
     await ! tt $
     move ! (2 ∷ []) $ fsplit ! $ drop ! $ fsplit ! $ drop ! $ fsplit ! $ drop ! $ fsplit ! $ drop ! $ fsplit ! $ drop ! $ fsplit ! $
     returns ! (look_at ! 0 refl) $ free_all ! refl $ keep ! (0 ∷ 5 ∷ 4 ∷ 2 ∷ []) $
