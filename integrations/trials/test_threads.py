@@ -74,9 +74,9 @@ def shared_results_are_held() -> None:
     assert admission.used == 4 + 5 and admission.ready() == [3] and admission.start(3)
     assert admission.spent(3) == [1] and admission.used == 4 + 5 + 1
     admission.done(3)
-    assert admission.left == 0 and admission.used == 4 + 5, "the shared result is not gone yet"
+    assert admission.left == 1 and admission.used == 4 + 5 + 1, "the shared result is not gone yet"
     admission.gone(1)
-    assert admission.used == 5
+    assert admission.left == 0 and admission.used == 5
 
 
 def bounds_below_the_peak_are_refused() -> None:

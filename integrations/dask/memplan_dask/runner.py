@@ -23,6 +23,10 @@ PATIENCE = 30.0
 """For so many seconds nothing moves before a run says so. Dask looks at the memory of a worker ten times a second, and what it writes to
 disk is there within seconds: where nothing ran for half a minute, and a worker is still paused, it waits for nothing that will come."""
 
+LEAST_PATIENCE = 3.0
+"""A worker tells the scheduler what it does every half second, and every second or two in a large cluster. A run waits for a few of these
+words: with less patience a worker that was just not heard of would count as one whose interpreter is held, again and again."""
+
 _SECONDS_BETWEEN_LOOKS = 0.02
 _SECONDS_OF_SILENCE = 1.0
 
@@ -40,8 +44,8 @@ def run(
 
     The tasks run along ``order`` (tasks, from 0). Without one they run along an order of least peak where each result has one consumer,
     and else along Dask's. ``retries`` says how often a task that raises is tried again, and ``workers``, by their addresses, on which
-    workers the tasks run; without it on all that there are now. After ``patience`` seconds in which nothing moves, and no task of the run
-    is at work, `Standstill` is raised: so it is where what is left can run only on workers that Dask has paused.
+    workers the tasks run; without it on all that there are now. After ``patience`` seconds, and at least three, in which nothing moves,
+    and no task of the run is at work, `Standstill` is raised: so it is where what is left can run only on workers that Dask has paused.
 
     Raises `memplan.admission.BoundTooLow` where the bound is below the peak of the order, `memplan.Refused` where the order is none or a
     limit of the library is passed, `UnbookedData` where a task has a future or a Dask collection inside, and one of `errors` where the
@@ -104,7 +108,7 @@ class _Run:
         patience: float = PATIENCE,
     ) -> None:
         self.name = "memplan-" + uuid.uuid4().hex
-        self.tasks, self.client, self.retries, self.patience = tasks, client, retries, patience
+        self.tasks, self.client, self.retries, self.patience = tasks, client, retries, max(patience, LEAST_PATIENCE)
         threads = _threads(client, workers)
         with keys_told([task.key for task in tasks]):
             graph = graph_of(tasks, _others(threads))
