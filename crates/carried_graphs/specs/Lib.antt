@@ -1,0 +1,5 @@
+pub mod Paths
+pub mod Carried
+pub mod Refusal
+pub mod Places
+pub mod Samples

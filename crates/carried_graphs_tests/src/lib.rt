@@ -1,0 +1,5 @@
+//! Tests of `carried_graphs`, over its public functions.
+#![tactic(auto)]
+
+#[cfg(test)]
+mod tests;

@@ -1,0 +1,2 @@
+pub mod UseGraphs
+pub mod NamedOrders

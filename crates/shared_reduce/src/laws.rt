@@ -1,0 +1,34 @@
+//! Laws over the definitions: each contract is a law, and each body is empty.
+ghost use Rattle.std.specs.Prelude.{◌≡◌, ℕ, ◌↔◌, List, map};
+ghost use Rattle.mp_system.specs.Memory.{peak_of};
+ghost use Rattle.mp_system.specs.Renaming.{name_in};
+ghost use Rattle.mp_system.specs.Traversal.{IsTraversal, IsLeast};
+ghost use Rattle.sp_terms.specs.Term.{Term};
+ghost use Rattle.sp_terms.specs.SystemOfTerm.{system_of_term};
+ghost use Rattle.graphs.specs.Graph.{completed_system};
+ghost use Rattle.sp_reduce.specs.Reduced.{HasSystem};
+ghost use Rattle.shared_systems.specs.Shared.{SharedTaskSystem};
+ghost use Rattle.shared_systems.specs.SharedMemory.{shared_peak_of};
+ghost use Rattle.shared_systems.specs.SharedTraversal.{IsSharedTraversal, IsLeastShared};
+ghost use Rattle.shared_systems.specs.Bounds.{IsSharedSystem};
+ghost use Rattle.carried_graphs.specs.Carried.{AreLastReaders, carried};
+
+use carried_graphs::laws::carried_law;
+use sp_reduce::laws::named_term_law;
+
+/// The orders of the term are those of the shared system, under the names of its tasks, with the same peaks; so both have the same least
+/// peak.
+pub fn shared_term_law()
+    ensures traversal { (system : SharedTaskSystem) (lasts names : List ℕ) (t : Term) (order : List ℕ) →
+        IsSharedSystem system → AreLastReaders system lasts → HasSystem names t (completed_system (carried lasts system)) →
+        (IsTraversal (system_of_term t) order ↔ IsSharedTraversal system (map (name_in names) order)) }
+    ensures peak { (system : SharedTaskSystem) (lasts names : List ℕ) (t : Term) (order : List ℕ) →
+        IsSharedSystem system → AreLastReaders system lasts → HasSystem names t (completed_system (carried lasts system)) →
+        IsTraversal (system_of_term t) order → shared_peak_of system (map (name_in names) order) ≡ peak_of (system_of_term t) order }
+    ensures least { (system : SharedTaskSystem) (lasts names : List ℕ) (t : Term) (peak : ℕ) →
+        IsSharedSystem system → AreLastReaders system lasts → HasSystem names t (completed_system (carried lasts system)) →
+        (IsLeastShared system peak ↔ IsLeast (system_of_term t) peak) }
+{
+    named_term_law();
+    carried_law();
+}

@@ -1,0 +1,5 @@
+//! Tests of `shared_reduce`, over its public functions.
+#![tactic(auto)]
+
+#[cfg(test)]
+mod tests;

@@ -1,0 +1,6 @@
+pub mod TermWays
+pub mod TermPaths
+pub mod BothOrders
+pub mod ListedSteps
+pub mod TermTables
+pub mod NamedOrders

@@ -1,0 +1,2 @@
+pub mod TermOrders
+pub mod Steps
