@@ -144,7 +144,7 @@ class Inputs:
 
 def working_set(kind: str, name: str) -> int:
     with open(name, encoding="ascii") as text:
-        return max(needs_of_tree(text) if kind == "tree" else needs_of_workflow(text))
+        return max(NEEDS[kind](text))
 
 
 def needs_of_tree(lines: Iterator[str]) -> list[int]:
@@ -172,3 +172,28 @@ def needs_of_workflow(lines: Iterator[str]) -> list[int]:
             stack[-2:] = [(first, last)]
             needs.append(left + int(numbers[0]) + begun)
     return needs
+
+
+def needs_of_graph(lines: Iterator[str]) -> list[int]:
+    """Of each task of a graph of version 2: what it reads, what it adds and what it makes, less its
+    share."""
+    next(lines)
+    needs = [0] * (int(next(lines).split()[1]) + 1)
+    for task in range(1, len(needs)):
+        extra, share, _ = map(int, next(lines).split())
+        needs[task] = extra - share
+    next(lines)
+    for line in lines:
+        if line.startswith("end"):
+            break
+        size, *ends = map(int, line.split())
+        for task in ends:
+            needs[task] += size
+    return needs[1:]
+
+
+NEEDS: dict[str, Callable[[Iterator[str]], list[int]]] = {
+    "tree": needs_of_tree,
+    "workflow": needs_of_workflow,
+    "graph": needs_of_graph,
+}

@@ -377,10 +377,28 @@ class Tables:
         return self.alone_table("reduce", "`reduce` of a graph", found, [""])
 
     def graphs(self) -> str:
+        """Replayed, run in twice the peak, and spilled halfway from the greatest need of a task."""
         graph, order = self.inputs.shared_graph()
+        words = ["--graph", graph, "--order", order]
+        peak = self.peak_of(words)
+        bound = str((peak + working_set("graph", graph)) // 2)
+        ours, other = self.memplan("replay", *words), self.beside("C++", self.peer, "replay", graph, order)
+        rows = [self.pair("replay", "`replay`", [ours, other])]
+        for workers in ("1", "16", "4096"):
+            ours = self.memplan("simulate", *words, "--bound", str(2 * peak), "--workers", workers)
+            other = self.beside("C++", self.peer, "simulate", graph, order, str(2 * peak), workers)
+            label = f"`simulate`, in twice the peak, {int(workers):,} workers".replace(" 1 workers", " 1 worker")
+            rows.append(self.pair("simulate", label, [ours, other]))
+        spill = [("`spill`, halfway", [["spill", *words, "--bound", bound]])]
         label = f"{self.sizes.tasks:,} tasks, each of which makes an item that three others read"
-        found = [(label, [["replay", "--graph", graph, "--order", order]])]
-        return self.alone_table("replay", "`replay` of a graph with several readers", found, [""])
+        both = [table(self.pair_head(label, "C++"), rows), self.alone_table("spill", label, spill, [""])]
+        return "\n".join(filter(None, both))
+
+    def peak_of(self, words: list[str]) -> int:
+        """That of an order, which `replay` tells; 0 where the program has no such replay."""
+        asked = [self.program, "replay", *words]
+        done = subprocess.run(asked, stdout=subprocess.PIPE, stderr=subprocess.DEVNULL, text=True)
+        return int(done.stdout.split()[1]) if done.returncode == 0 else 0
 
     # growth
 

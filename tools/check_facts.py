@@ -11,7 +11,7 @@ usage: check_facts.py [FOLDER]      (the repository; the one that this script is
 - The limits: the constants, their definitions, the table of docs/FORMATS.md, and each number that is stated in the header, in the Python
   package, in tools/fuzz/formats.py, tools/explaining and tools/drawing. The page, the header and the package state no limit elsewhere.
 - The commands with their options, the words and the numbers that these take, and the statuses: tools/commands.py, of which help and pages are
-  made; and the numbers that tools/fuzz takes.
+  made; the commands that take graphs of both versions, as tools/explain names them; and the options and the numbers that tools/fuzz takes.
 
 The last line is 'N passed, M failed', and the status is 0 where none failed.
 """
@@ -72,6 +72,7 @@ LIMITS_OF_KINDS = {
     "MANY_CLAIMS": "POSITIONS",
     "MANY_ITEMS": "POSITIONS",
     "ITEM_SIZE": "SIZE",
+    "MANY_USES": "USES",
     "MANY_COLUMNS": "ORDER",
     "MANY_ENTRIES": "ENTRIES",
     "DEGREE": "MINDEG",
@@ -87,7 +88,6 @@ SENTENCES = {
         "/* at most N */": "TOTAL",
         "takes no more than N columns": "MINDEG",
     },
-    ADMISSION: {"of the N workers of a core": "WORKERS"},
     "python/memplan/_numbers.py": {"sizes are at most N together": "TOTAL"},
 }
 
@@ -273,7 +273,7 @@ class Facts:
             if name not in (PACKAGE, ADMISSION):
                 yield from self.limits_beside(name, [])
         running = numbers_in(self.text(ADMISSION), r"^MOST_(RUNNING) = (\d+)$")
-        yield ADMISSION, running, {"RUNNING": self.most["WORKERS"] - 1}
+        yield ADMISSION, running, {"RUNNING": self.most["WORKERS"]}
 
     def limits_beside(self, place: str, texts: List[Tuple[str, str]]) -> Iterator[Finding]:
         """Of each text that stands at a kind, and of each known sentence of the file, the limit; and there is no other in the file."""
@@ -321,6 +321,16 @@ class Facts:
         ranges = self.module("fuzz.formats").RANGES
         yield "tools/fuzz/formats.py", {name: f"{least} to {most}" for name, (least, most) in ranges.items()}, {name: it for name, it in values.items() if " to " in it}
         yield place, {number: number for number in table.STATUSES}, {number: number for number in self.said.values()}
+        of_graphs = {name: "graph" for name, options in wanted.items() if "graph" in options.split() and name != "reduce"}
+        yield "tools/explaining/formats.py", {name: "graph" for name in self.module("explaining.formats").BOTH_GRAPHS}, of_graphs
+        yield "tools/fuzz/formats.py, options", dict(self.options_of_fuzz()), wanted
+
+    def options_of_fuzz(self) -> Iterator[Tuple[str, str]]:
+        """The commands that tools/fuzz knows, each with its options."""
+        fuzz = self.module("fuzz.formats")
+        for name, (inputs, needed, further) in fuzz.COMMANDS.items():
+            of_matrix = fuzz.MATRIX_OPTIONS if "matrix" in inputs and name not in fuzz.WITHOUT_FRONT_OPTIONS else set()
+            yield name, " ".join(sorted(inputs.union(*needed, further, of_matrix)))
 
 
 def difference(found: dict, wanted: dict) -> str:

@@ -452,9 +452,9 @@ def check_quotes(page: list[str]) -> Iterator[Finding]:
 
 
 def samples_of(crate: str) -> str:
-    """The worked examples of a crate: `specs/Samples.antt`, and the files below `specs/Samples/`."""
+    """The worked examples of a crate: `specs/Samples.antt`, others whose names end so, and the files below `specs/Samples/`."""
     specs = ROOT / "crates" / crate / "specs"
-    files = [specs / "Samples.antt", *sorted(specs.glob("Samples/*.antt"))]
+    files = [*sorted(specs.glob("*Samples.antt")), *sorted(specs.glob("Samples/*.antt"))]
     return "\n".join(file.read_text(encoding="utf-8") for file in files if file.is_file())
 
 

@@ -7,8 +7,8 @@ declare -A usage_of=(
     [post]=TREE
     [tree]=MATRIX
     [fronts]='--matrix FILE [--perm FILE | --ordering natural|mindeg] --bound B --workers W'
-    [simulate]='INPUT (--order FILE | --plan FILE) --bound B --workers W [--priority FILE]'
-    [spill]='INPUT (--order FILE | --plan FILE) --bound B'
+    [simulate]='(INPUT | --graph FILE) (--order FILE | --plan FILE) --bound B --workers W [--priority FILE]'
+    [spill]='(INPUT | --graph FILE) (--order FILE | --plan FILE) --bound B'
     [segments]=INPUT
     [reduce]='--graph FILE'
     [upgrade]='(--tree FILE | --workflow FILE | --graph FILE | --plan FILE [--priority FILE])'
@@ -21,8 +21,8 @@ declare -A options_of=(
     [post]='tree matrix perm ordering shape amalgamate inplace'
     [tree]='matrix perm ordering shape amalgamate inplace'
     [fronts]='matrix perm ordering bound workers'
-    [simulate]='tree workflow matrix perm ordering shape amalgamate inplace order plan bound workers priority'
-    [spill]='tree workflow matrix perm ordering shape amalgamate inplace order plan bound'
+    [simulate]='tree workflow matrix perm ordering shape amalgamate inplace graph order plan bound workers priority'
+    [spill]='tree workflow matrix perm ordering shape amalgamate inplace graph order plan bound'
     [segments]='tree workflow matrix perm ordering shape amalgamate inplace'
     [reduce]=graph
     [upgrade]='tree workflow graph plan priority'
@@ -35,8 +35,8 @@ declare -A one_of=(
     [post]='tree|matrix'
     [tree]=matrix
     [fronts]='matrix bound workers'
-    [simulate]='tree|workflow|matrix order|plan bound workers'
-    [spill]='tree|workflow|matrix order|plan bound'
+    [simulate]='tree|workflow|matrix|graph order|plan bound workers'
+    [spill]='tree|workflow|matrix|graph order|plan bound'
     [segments]='tree|workflow|matrix'
     [reduce]=graph
     [upgrade]='tree|workflow|graph|plan'
@@ -167,6 +167,10 @@ END
 memplan replay: the peak of an order
 
 usage: memplan replay (INPUT | --graph FILE) (--order FILE | --plan FILE)
+INPUT is TREE, or --workflow FILE
+TREE is --tree FILE, or MATRIX
+MATRIX is --matrix FILE, with at most one of --perm and --ordering, and any of
+the others
 
   --tree FILE                a tree file: tasks of which each leaves one block
                              to its parent, as fronts do
@@ -302,8 +306,8 @@ END
             cat <<'END'
 memplan simulate: a run on several workers within a bound on memory
 
-usage: memplan simulate INPUT (--order FILE | --plan FILE) --bound B --workers
-W [--priority FILE]
+usage: memplan simulate (INPUT | --graph FILE) (--order FILE | --plan FILE)
+--bound B --workers W [--priority FILE]
 INPUT is TREE, or --workflow FILE
 TREE is --tree FILE, or MATRIX
 MATRIX is --matrix FILE, with at most one of --perm and --ordering, and any of
@@ -325,6 +329,8 @@ the others
                              to 2^40; none without it
   --inplace no|yes           with yes a front is assembled in the place of its
                              greatest child's block
+  --graph FILE               a task graph file: tasks, and the data that go
+                             from one to another
   --order FILE               an order file: the numbers of the tasks, in order,
                              from 1
   --plan FILE                a plan file, as plan prints it; its order is taken
@@ -347,7 +353,8 @@ END
             cat <<'END'
 memplan spill: the least volume that must go to disk within a bound
 
-usage: memplan spill INPUT (--order FILE | --plan FILE) --bound B
+usage: memplan spill (INPUT | --graph FILE) (--order FILE | --plan FILE)
+--bound B
 INPUT is TREE, or --workflow FILE
 TREE is --tree FILE, or MATRIX
 MATRIX is --matrix FILE, with at most one of --perm and --ordering, and any of
@@ -369,14 +376,18 @@ the others
                              to 2^40; none without it
   --inplace no|yes           with yes a front is assembled in the place of its
                              greatest child's block
+  --graph FILE               a task graph file: tasks, and the data that go
+                             from one to another
   --order FILE               an order file: the numbers of the tasks, in order,
                              from 1
   --plan FILE                a plan file, as plan prints it; its order is taken
   --bound B                  the memory that there is, in the units of the
                              input
 
-Prints volume V, items K, K lines ITEM AMOUNT, end. Status 1: the order is no
-traversal. Status 10: a step needs more for itself than the bound.
+Prints volume V, items K, K lines ITEM AMOUNT, end; of a task graph gaps K and
+K lines ITEM READER AMOUNT, each of an item until this task reads it, or with 0
+to the end. Status 1: the order is no traversal. Status 10: a step needs more
+for itself than the bound.
 
 $ memplan spill --tree examples/five.tree --order examples/five.postorder --bound 11
 volume 4

@@ -17,7 +17,7 @@ from commands import COMMANDS, FILE, INPUT, INPUTS, STATUSES, Command, Option  #
 
 ROOT = Path(__file__).resolve().parent.parent
 MADE = "Made by tools/make_help.py of tools/commands.py."
-DATE = "2026-11-29"  # of the man page: when the commands changed last
+DATE = "2026-11-30"  # of the man page: when the commands changed last
 ABOUT = "memplan orders tasks so that their temporary data needs as little memory as possible, and proves it."
 WORDS = (
     "The command comes first, then its options in any order, each at most once: `--name value`, or `--name=value`. "
@@ -35,8 +35,9 @@ INPUT_NAMES = {option.name for option in INPUT}
 
 
 def input_word(command: Command) -> str:
-    """INPUT, TREE or MATRIX, where the usage of the command has it; else nothing."""
-    return command.usage.split()[0] if command.usage.split()[0] in INPUTS else ""
+    """INPUT, TREE or MATRIX, where the usage of the command begins with it, or with a choice of it and others; else nothing."""
+    first = command.usage.lstrip("(").split()[0]
+    return first if first in INPUTS else ""
 
 
 def own_options(command: Command) -> Iterator[Option]:

@@ -1,11 +1,14 @@
-// What memplan does, without any proof: reading, best postorder, least peak.
+// What memplan does, without any proof: reading, best postorder, least peak, and the peak and the run of a graph.
 //
 // usage: peer read tree|workflow|matrix|plan FILE
 //        peer post TREE_FILE
 //        peer plan tree|workflow FILE
+//        peer replay GRAPH_FILE ORDER_FILE
+//        peer simulate GRAPH_FILE ORDER_FILE BOUND WORKERS
 
 #include <cstring>
 
+#include "graph.hpp"
 #include "pattern.hpp"
 #include "workflow.hpp"
 
@@ -85,6 +88,31 @@ void print_plan(const Traversal &found) {
     page.write();
 }
 
+void print_peak(std::uint64_t peak) {
+    Page page;
+    page.line("peak ", peak);
+    page.write();
+}
+
+void print_run(const Run &run) {
+    Page page;
+    page.line("makespan ", run.makespan);
+    page.line("used ", run.used);
+    page.line("booked ", run.booked);
+    page.line("events ", run.events.size());
+    for (const Event &event : run.events) {
+        page.number(event.time);
+        page.line(event.kind == 'a' ? " activate " : event.kind == 's' ? " start " : " finish ", event.task);
+    }
+    page.word("end\n");
+    page.write();
+}
+
+void simulate(char **words) {
+    const std::uint64_t bound = std::strtoull(words[2], nullptr, 10);
+    print_run(run_of(read_graph(words[0]), read_order(words[1]), bound, std::strtoull(words[3], nullptr, 10)));
+}
+
 }
 
 int main(int count, char **words) {
@@ -92,5 +120,7 @@ int main(int count, char **words) {
     if (is("read") && count == 4) read(words[2], words[3]);
     else if (is("post") && count == 3) print_post(best_postorder(read_tree(words[2])));
     else if (is("plan") && count == 4) print_plan(plan(words[2], words[3]));
-    else fail("usage: peer read KIND FILE | post TREE | plan KIND FILE");
+    else if (is("replay") && count == 4) print_peak(peak_of(read_graph(words[2]), read_order(words[3])));
+    else if (is("simulate") && count == 6) simulate(words + 2);
+    else fail("usage: peer read KIND FILE | post TREE | plan KIND FILE | replay GRAPH ORDER | simulate GRAPH ORDER BOUND WORKERS");
 }

@@ -52,6 +52,17 @@ public:
         if (token() != word) fail("another word is wanted");
     }
 
+    // Whether no token is left in the line; lines of comments have none.
+    bool is_line_end() {
+        while (*at == ' ' || *at == '\t' || *at == '\r') at++;
+        return *at == '\n' || *at == 0;
+    }
+
+    bool is_end() {
+        skip();
+        return *at == 0;
+    }
+
     // The rest of the line, whatever it begins with.
     std::string_view line() {
         const char *first = at;

@@ -26,8 +26,8 @@ _memplan() {
                 post) words="--tree --matrix --perm --ordering --shape --amalgamate --inplace" ;;
                 tree) words="--matrix --perm --ordering --shape --amalgamate --inplace" ;;
                 fronts) words="--matrix --perm --ordering --bound --workers" ;;
-                simulate) words="--tree --workflow --matrix --perm --ordering --shape --amalgamate --inplace --order --plan --bound --workers --priority" ;;
-                spill) words="--tree --workflow --matrix --perm --ordering --shape --amalgamate --inplace --order --plan --bound" ;;
+                simulate) words="--tree --workflow --matrix --perm --ordering --shape --amalgamate --inplace --graph --order --plan --bound --workers --priority" ;;
+                spill) words="--tree --workflow --matrix --perm --ordering --shape --amalgamate --inplace --graph --order --plan --bound" ;;
                 segments) words="--tree --workflow --matrix --perm --ordering --shape --amalgamate --inplace" ;;
                 reduce) words="--graph" ;;
                 upgrade) words="--tree --workflow --graph --plan --priority" ;;

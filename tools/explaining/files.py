@@ -76,6 +76,15 @@ class File:
         """The lines of a tree's nodes, or a graph's tasks, and arcs or items."""
         return [(number, [int(it) for it in tokens]) for number, tokens in islice(self.rows(), 2, None) if len(tokens) > 2 and all(map(is_number, tokens))]
 
+    def section(self) -> str:
+        """The word before the second part of a graph file: `arcs`, or in version 2 `items`."""
+        return "items" if next(self.rows())[1][1:] == ["2"] else "arcs"
+
+    def arcs(self) -> List[Tuple[int, int]]:
+        """Of a graph file for each reader of an item the task that makes it, and the reader; 0 stands for none."""
+        ends = [row for _, row in self.nodes()[self.stated("tasks") :]]
+        return [(row[0], row[1]) for row in ends] if self.section() == "arcs" else [(row[1], reader) for row in ends for reader in row[2:]]
+
     def place(self, number: int) -> str:
         count = sum(1 for _ in self.lines())
         if number > count:

@@ -5,6 +5,9 @@ from typing import Callable, Dict, List
 from explaining.files import Case, File, foreign, form_of, is_number, many, wrong_token
 
 SECOND_LINES = {"tree": "nodes N", "workflow": "tasks N"}
+# The commands that take graph files of version 1 and of version 2.
+BOTH_GRAPHS = ("replay", "simulate", "spill", "upgrade")
+
 
 def numbers(case: Case, names: str, tokens: List[str], is_timed: bool = False) -> str:
     """What is wrong with numbers that should be those of these names."""
@@ -40,13 +43,8 @@ def workflow_number(case: Case) -> str:
     return numbers(case, names, case.tokens[1:], case.tokens[0] == "task")
 
 
-def section_of(file: File) -> str:
-    """The word before the second part of a graph file: `arcs`, or in version 2 `items`."""
-    return "items" if next(file.rows())[1][1:] == ["2"] else "arcs"
-
-
 def graph_number(case: Case) -> str:
-    section = section_of(case.file)
+    section = case.file.section()
     if case.tokens[0] in ("tasks", section):
         return numbers(case, "N", case.tokens[1:])
     begins = [number for number, tokens in case.file.rows() if tokens[0] == section]
@@ -103,8 +101,7 @@ def tree_cycle(case: Case) -> str:
 def graph_cycle(case: Case) -> str:
     tasks = case.file.stated("tasks")
     rows = case.file.nodes()
-    ends = [row for _, row in rows[tasks:]]
-    arcs = [(row[0], row[1]) for row in ends] if section_of(case.file) == "arcs" else [(row[1], reader) for row in ends for reader in row[2:]]
+    arcs = case.file.arcs()
     left = {task: [one for one, other in arcs if other == task and one] for task in range(1, tasks + 1)}
     while done := [task for task, before in left.items() if not any(it in left for it in before)]:
         for task in done:
@@ -237,11 +234,17 @@ def permutation_cause(case: Case) -> str:
 def header(case: Case) -> str:
     kind = case.file.kind
     if len(case.tokens) == 2 and case.tokens[0] == kind:
-        return f"There are the versions 1 and 2 of this format{', of which `reduce` takes 1' if kind == 'graph' else ''}."
+        return f"There are the versions 1 and 2 of this format{of_graphs() if kind == 'graph' else ''}."
     first = next(case.file.rows(), (case.line, []))[0]
     if case.line != first:
         return f"This line is not `{SECOND_LINES[kind]}`."
     return f"The first line, `{kind} 1`, is not there."
+
+
+def of_graphs() -> str:
+    """Which commands take which version of graph files."""
+    both = f"{', '.join(f'`{name}`' for name in BOTH_GRAPHS[:-1])} and `{BOTH_GRAPHS[-1]}`"
+    return f"; `reduce` takes version 1 alone, with an arc for each reader, and {both} take both"
 
 
 # ---- what each refusal of a file's form means: a sentence, or what finds one
@@ -268,9 +271,11 @@ MEANINGS: Dict[str, object] = {
     "workflow share": SHARES,
     "graph number": graph_number,
     "graph section": SECTIONS.format("arcs M`, in version 2 `items M"),
-    "graph item": graph_item,
     "graph arc": (graph_arc, "Tasks are numbered from 1; 0 says that no task makes it, or takes it up."),
-    "graph item": "Behind the size stands the task that makes the item, or 0, and then the tasks that read it, in rising order: none twice, and not the one that makes it.",
+    "graph item": (
+        graph_item,
+        "Behind the size stands the task that makes the item, or 0, and then the tasks that read it, in rising order: none twice, and not the one that makes it.",
+    ),
     "graph cycle": graph_cycle,
     "graph share": SHARES,
     "matrix banner": banner,

@@ -58,19 +58,23 @@ def of_bound(words: List[str]) -> List[str]:
 
 def of_graph(count: int) -> List[str]:
     means = f"The graph is not series-parallel: {many(count, 'arc')} are left, by which no tasks can be put together any more."
-    return [means, "They stand below this line, as `FROM TO`: see what runs across there. `plan` takes series-parallel tasks alone."]
+    where = "They stand below this line, as `FROM TO`: see what runs across there."
+    return [means, f"{where} `plan` takes series-parallel tasks alone; `replay`, `simulate` and `spill` take any graph, in an order of yours."]
 
 
 def tasks_left(files: Dict[str, File], task: int, before: List[int]) -> List[int]:
-    """The tasks that have to run before a task and did not yet; none where no tree is there."""
+    """The tasks that have to run before a task and did not yet; none where no tree and no graph is there."""
+    if "graph" in files:
+        return sorted({one for one, other in files["graph"].arcs() if other == task and one and one not in before})
     if "tree" not in files:
         return []
     return [node for node, (_, row) in enumerate(files["tree"].nodes(), 1) if row[0] == task and node not in before]
 
 
 def tasks_missing(files: Dict[str, File], order: List[int]) -> List[int]:
-    """The tasks that an order has not; none where no tree is there."""
-    return sorted(set(range(1, files["tree"].stated("nodes") + 1)) - set(order)) if "tree" in files else []
+    """The tasks that an order has not; none where no tree and no graph is there."""
+    counts = (files[kind].stated(word) for kind, word in (("tree", "nodes"), ("graph", "tasks")) if kind in files)
+    return sorted(set(range(1, next(counts, 0) + 1)) - set(order))
 
 
 def of_order(place: int, word: str, files: Dict[str, File]) -> List[str]:
@@ -94,7 +98,8 @@ def of_order(place: int, word: str, files: Dict[str, File]) -> List[str]:
         left = tasks_left(files, int(token), before) if is_number(token) else []
         waits = f": task {left[0]} comes first" if left else ""
         means = f"Place {place} of the order has task {token}, before a task whose data it takes up{waits}."
-        cause = "A node comes after its children. Is the order turned round, or that of another input?"
+        rule = "A task comes after those that make what it reads." if "graph" in files else "A node comes after its children."
+        cause = f"{rule} Is the order turned round, or that of another input?"
     return [*where, means, cause]
 
 

@@ -204,14 +204,15 @@ class Command(NamedTuple):
 
 
 ALL_INPUTS = ("tree", "tree", "workflow", "workflow", "matrix")
+INPUTS_AND_GRAPHS = (*ALL_INPUTS, "shared graph", "shared graph")
 
 # A further command is a further line, here and in formats.COMMANDS.
 COMMANDS = {
-    "replay": Command((*ALL_INPUTS, "shared graph", "shared graph"), replay_options),
+    "replay": Command(INPUTS_AND_GRAPHS, replay_options),
     "plan": Command(ALL_INPUTS, plan_options),
     "check": Command(ALL_INPUTS, check_options),
-    "simulate": Command(ALL_INPUTS, simulate_options),
-    "spill": Command(ALL_INPUTS, spill_options),
+    "simulate": Command(INPUTS_AND_GRAPHS, simulate_options),
+    "spill": Command(INPUTS_AND_GRAPHS, spill_options),
     "fronts": Command(("matrix",), fronts_options),
     "segments": Command(ALL_INPUTS, no_options),
     "reduce": Command(("graph",), no_options),

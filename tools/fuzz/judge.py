@@ -29,6 +29,7 @@ from cases import Case
 from models import (
     SharedSystem,
     Simulation,
+    Spilling,
     System,
     children_of,
     columns_of,
@@ -203,17 +204,9 @@ class Judge:
 
     def spill_ends(self) -> Iterator[str]:
         system, order = system_of(self.bench, self.options), self.asked_order()
-        bound = int(self.options["bound"])
-        if refusal := system.fault(order) or system.working_set(order, bound):
-            yield from self.expect(refusal)
-            return
-        lines = [line.split() for line in self.text.splitlines()[2:-1]]
-        amounts = {int(item): int(amount) for item, amount in lines}
-        volume = system.least_volume(order, bound)
-        told = [f"{item} {amounts[item]}\n" for item in sorted(amounts) if amounts[item] > 0]
-        yield from self.expect(f"volume {volume}\nitems {len(told)}\n{''.join(told)}end\n")
-        if sum(amounts.values()) != volume or not system.is_spill_plan(order, bound, amounts):
-            yield "the amounts are no spill plan of this volume"
+        word = "gaps" if "graph" in self.options else "items"
+        text = system.fault(order) or ending_of_spill(Spilling(system, order, int(self.options["bound"])), word, self.text)
+        yield from self.expect(text)
 
     def fronts_ends(self) -> Iterator[str]:
         order = numbers(self.file("perm")) if "perm" in self.options else None
@@ -332,6 +325,26 @@ class Judge:
                 yield "the graph is another one"
         elif self.bench.run(["plan", f"--{kind}=made"]) != self.bench.run(["plan", *input_words(self.options)]):
             yield "what was upgraded has another plan"
+
+
+# ---- spills
+
+
+def ending_of_spill(spilling: Spilling, word: str, told: str) -> str:
+    """What `spill` has to print: the first step that needs too much, or what was told, if that has the least volume and fits; else amounts that do.
+    Of a spill it tells amounts of items or of gaps, in this word."""
+    if refusal := spilling.working_set():
+        return refusal
+    amounts = amounts_told(told)
+    if sum(amounts.values()) == spilling.least_volume() and spilling.is_plan(amounts):
+        return spilling.report(word, amounts)
+    return spilling.report(word, spilling.chosen())
+
+
+def amounts_told(text: str) -> dict[tuple[int, ...], int]:
+    """The amounts of a report of `spill`, each by the numbers before it."""
+    lines = ([int(token) for token in line.split()] for line in text.splitlines()[2:-1] if re.fullmatch("[0-9 ]+", line))
+    return {tuple(names): amount for *names, amount in lines}
 
 
 # ---- inputs of runs that were accepted

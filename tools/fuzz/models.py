@@ -1,7 +1,9 @@
-"""Plain models of what memplan computes: systems, their peaks, simulated runs; and the values of files that were accepted."""
+"""Plain models of what memplan computes: systems, their peaks, simulated runs, spills; and the values of files that were accepted."""
+import itertools
+import math
 import re
 from collections import Counter
-from collections.abc import Iterable, Iterator
+from collections.abc import Callable, Iterable, Iterator
 from typing import NamedTuple, Optional
 
 
@@ -40,24 +42,52 @@ class Tasks:
             yield from self.traversals((*order, task + 1), done | 1 << task)
 
 
-class System(Tasks):
-    """Tasks with what they need, and the items between them."""
+class Held(NamedTuple):
+    """A size that is held across these steps of an order, counted from 0; they follow one on the other."""
+
+    size: int
+    steps: list[int]
+
+
+class SizedTasks(Tasks):
+    """Tasks with their times, with what they need and with what is there between them; what tells of items differs by how many tasks read one."""
+
+    def __init__(self, tasks: list[tuple[int, int, int]], made: list[int]) -> None:
+        """Tasks are their extra, share and time; each makes so much."""
+        super().__init__(len(tasks))
+        self.times = [time for _, _, time in tasks]
+        self.needs = [extra + out - share for (extra, share, _), out in zip(tasks, made)]
+
+    def memory(self, done: int) -> int:
+        """What is there between tasks, where those of this set are done."""
+        raise NotImplementedError
+
+    def own_need(self, number: int) -> int:
+        """What a task reads, and what it needs beside that."""
+        raise NotImplementedError
+
+    def held(self, order: list[int]) -> dict[tuple[int, ...], Held]:
+        """What is held along a traversal without being used, each by the numbers that `spill` prints of it, in the order in which it does."""
+        raise NotImplementedError
+
+
+class System(SizedTasks):
+    """Tasks, and the items between them."""
 
     def __init__(self, tasks: list[tuple[int, int, int]], items: list[list]) -> None:
         """Tasks are their extra, share and time; items are their size, the task that makes them and the one that takes them, or None."""
-        super().__init__(len(tasks))
         self.first = sum(size for size, maker, _ in items if maker is None)
-        self.times = [time for _, _, time in tasks]
-        taken, made = [0] * self.count, [0] * self.count
+        taken, made = [0] * len(tasks), [0] * len(tasks)
         for size, maker, taker in items:
             if maker is not None:
                 made[maker] += size
             if taker is not None:
                 taken[taker] += size
+        super().__init__(tasks, made)
+        for _, maker, taker in items:
             if maker is not None and taker is not None:
                 self.suppliers[taker].add(maker)
         self.items, self.taken = items, taken
-        self.needs = [extra + out - share for (extra, share, _), out in zip(tasks, made)]
         self.gains = [out - back for out, back in zip(made, taken)]
 
     def peak(self, order: list[int]) -> int:
@@ -70,43 +100,13 @@ class System(Tasks):
         return peak
 
     def own_need(self, number: int) -> int:
-        """What a task takes up and needs beside it."""
         return self.taken[number - 1] + self.needs[number - 1]
 
-    def working_set(self, order: list[int], bound: int) -> Optional[str]:
-        """The first step of a traversal that needs more for itself than the bound."""
-        for step, number in enumerate(order, 1):
-            if self.own_need(number) > bound:
-                return f"refused working-set {step} {self.own_need(number)} {bound}\n"
-        return None
-
-    def held(self, order: list[int]) -> list[list[int]]:
-        """For each step of a traversal the items, counted from 1, that are there all along it and are not taken up."""
+    def held(self, order: list[int]) -> dict[tuple[int, ...], Held]:
+        """The items, counted from 1: each from the step after its maker's to the step before that which takes it up."""
         place = {number - 1: step for step, number in enumerate(order)}
-        place[None] = -1
-        end = {**place, None: len(order)}
-        spans = [(place[maker], end[taker]) for _, maker, taker in self.items]
-        return [[item for item, (first, last) in enumerate(spans, 1) if first < step < last] for step in range(len(order))]
-
-    def is_spill_plan(self, order: list[int], bound: int, amounts: dict[int, int]) -> bool:
-        """Whether each step of a traversal fits, where so much of each item is on disk while it is held."""
-        if any(not 1 <= item <= len(self.items) or amount > self.items[item - 1][0] for item, amount in amounts.items()):
-            return False
-        kept = (sum(self.items[item - 1][0] - amounts.get(item, 0) for item in items) for items in self.held(order))
-        return all(self.own_need(number) + size <= bound for number, size in zip(order, kept))
-
-    def least_volume(self, order: list[int], bound: int) -> int:
-        """What has to be spilled where no step alone needs too much: from the last step back, of what is held the longest first."""
-        place = {number - 1: step for step, number in enumerate(order)}
-        place[None] = -1
-        amounts = dict.fromkeys(range(1, len(self.items) + 1), 0)
-        for number, items in reversed(list(zip(order, self.held(order)))):
-            left = {item: self.items[item - 1][0] - amounts[item] for item in items}
-            over = self.own_need(number) + sum(left.values()) - bound
-            for item in sorted(items, key=lambda item: place[self.items[item - 1][1]]):
-                amounts[item] += max(0, min(left[item], over))
-                over -= left[item]
-        return sum(amounts.values())
+        spans = [(size, -1 if maker is None else place[maker], place.get(taker, len(order))) for size, maker, taker in self.items]
+        return {(item,): Held(size, list(range(first + 1, last))) for item, (size, first, last) in enumerate(spans, 1)}
 
     def least_peak(self) -> int:
         """The least peak of all traversals, by the sets of tasks that are done."""
@@ -124,7 +124,6 @@ class System(Tasks):
         return min(peak for peak, _ in best.values())
 
     def memory(self, done: int) -> int:
-        """What is there between tasks, where those of this set are done."""
         return self.first + sum(gain for task, gain in enumerate(self.gains) if done >> task & 1)
 
     def staircase(self, backwards: bool) -> list[tuple[int, int]]:
@@ -158,14 +157,14 @@ class System(Tasks):
 class Simulation:
     """The run of a system on several workers within a bound."""
 
-    def __init__(self, system: System, order: list[int], priority: list[int], bound: int, workers: int) -> None:
+    def __init__(self, system: SizedTasks, order: list[int], priority: list[int], bound: int, workers: int) -> None:
         self.system, self.order, self.bound, self.workers = system, order, bound, workers
         self.rank = {number: place for place, number in enumerate(priority)}
         self.place = {number: place for place, number in enumerate(order)}
-        self.memory = self.used = self.booked = self.most_used = self.most_booked = system.first
         self.waiting: set[int] = set()
         self.due: dict[int, int] = {}
         self.done: set[int] = set()
+        self.most_used = self.most_booked = self.there()
         self.events: list[str] = []
 
     def report(self) -> str:
@@ -185,33 +184,104 @@ class Simulation:
         head = f"makespan {time}\nused {self.most_used}\nbooked {self.most_booked}\nevents {len(self.events)}\n"
         return head + "".join(self.events) + "end\n"
 
+    def there(self) -> int:
+        """The items that are there."""
+        return self.system.memory(sum(1 << number - 1 for number in self.done))
+
+    def used(self) -> int:
+        """These, and what the running tasks need."""
+        return self.there() + sum(self.system.needs[number - 1] for number in self.due)
+
+    def booked(self) -> int:
+        """These, and what the tasks need that are activated and not done."""
+        return self.there() + sum(self.system.needs[number - 1] for number in [*self.waiting, *self.due])
+
     def fits(self, number: int) -> bool:
-        return self.booked + self.system.needs[number - 1] <= self.bound
+        return self.booked() + self.system.needs[number - 1] <= self.bound
 
     def startable(self) -> list[int]:
         return [number for number in self.waiting if {task + 1 for task in self.system.suppliers[number - 1]} <= self.done]
 
     def activate(self, time: int, number: int) -> None:
         self.waiting.add(number)
-        self.note(time, "activate", number, 0, self.system.needs[number - 1])
+        self.note(time, "activate", number)
 
     def start(self, time: int, number: int) -> None:
         self.waiting.remove(number)
         self.due[number] = time + self.system.times[number - 1]
-        self.note(time, "start", number, self.system.needs[number - 1], 0)
+        self.note(time, "start", number)
 
     def finish(self, time: int, number: int) -> None:
         del self.due[number]
         self.done.add(number)
-        change = self.system.gains[number - 1] - self.system.needs[number - 1]
-        self.note(time, "finish", number, change, change)
+        self.note(time, "finish", number)
 
-    def note(self, time: int, word: str, number: int, used: int, booked: int) -> None:
-        self.used += used
-        self.booked += booked
-        self.most_used = max(self.most_used, self.used)
-        self.most_booked = max(self.most_booked, self.booked)
+    def note(self, time: int, word: str, number: int) -> None:
+        self.most_used = max(self.most_used, self.used())
+        self.most_booked = max(self.most_booked, self.booked())
         self.events.append(f"{time} {word} {number}\n")
+
+
+class Spilling:
+    """A traversal of a system within a bound, where part of what is held may be on disk."""
+
+    def __init__(self, system: SizedTasks, order: list[int], bound: int) -> None:
+        self.bound, self.held = bound, system.held(order)
+        self.needs = [system.own_need(number) for number in order]
+
+    def working_set(self) -> Optional[str]:
+        """The first step that needs more for itself than the bound."""
+        for step, need in enumerate(self.needs, 1):
+            if need > self.bound:
+                return f"refused working-set {step} {need} {self.bound}\n"
+        return None
+
+    def across(self, step: int) -> list[tuple[int, ...]]:
+        """What is held across a step."""
+        return [name for name, it in self.held.items() if step in it.steps]
+
+    def over(self, step: int, amounts: dict[tuple[int, ...], int]) -> int:
+        """By how much a step passes the bound where so much of what is held is on disk, or below 0 what is left below it."""
+        return self.needs[step] + sum(self.held[name].size - amounts.get(name, 0) for name in self.across(step)) - self.bound
+
+    def is_plan(self, amounts: dict[tuple[int, ...], int]) -> bool:
+        """Whether these are amounts of what is held, within which each step fits."""
+        is_within = all(name in self.held and amount <= self.held[name].size for name, amount in amounts.items())
+        return is_within and all(self.over(step, amounts) <= 0 for step in range(len(self.needs)))
+
+    def least_volume(self) -> int:
+        """What has to be spilled where no step alone needs too much: from the last step back, of what is held the longest first."""
+        return sum(self.spilled(list(range(len(self.needs)))[::-1], lambda it: it.steps[0]).values())
+
+    def chosen(self) -> dict[tuple[int, ...], int]:
+        """What `spill` takes to disk: at each step in turn first of what is held the longest from there on, and by number where that is the same."""
+        return self.spilled(list(range(len(self.needs))), lambda it: -it.steps[-1])
+
+    def spilled(self, steps: list[int], rank: Callable[[Held], int]) -> dict[tuple[int, ...], int]:
+        """The amounts where at each of these steps what passes the bound is spilled, first of what ranks first."""
+        amounts = dict.fromkeys(self.held, 0)
+        for step in steps:
+            over = self.over(step, amounts)
+            for name in sorted(self.across(step), key=lambda name: rank(self.held[name])):
+                part = max(0, min(self.held[name].size - amounts[name], over))
+                amounts[name] += part
+                over -= part
+        return amounts
+
+    def trials(self) -> int:
+        """In how many ways amounts can be given to what is held across some step."""
+        return math.prod(it.size + 1 for it in self.held.values() if it.steps)
+
+    def least_by_trial(self) -> int:
+        """The least volume of all ways in which amounts can be given, where no step alone needs too much."""
+        names = [name for name, it in self.held.items() if it.steps]
+        tried = itertools.product(*(range(self.held[name].size + 1) for name in names))
+        return min(sum(amounts) for amounts in tried if self.is_plan(dict(zip(names, amounts))))
+
+    def report(self, word: str, amounts: dict[tuple[int, ...], int]) -> str:
+        """What `spill` prints of amounts, which are those of items or of gaps."""
+        lines = ["".join(f"{number} " for number in name) + f"{amounts[name]}\n" for name in self.held if amounts.get(name)]
+        return f"volume {sum(amounts.values())}\n{word} {len(lines)}\n{''.join(lines)}end\n"
 
 
 # ---- files that were accepted, as values
@@ -338,24 +408,30 @@ class SharedItem(NamedTuple):
         is_read = bool(self.readers) and all(done >> reader & 1 for reader in self.readers)
         return bool(is_made) and not is_read
 
+    def waits_across(self, step: int, reader: Optional[int], place: dict[int, int]) -> bool:
+        """Whether it is held across a step in the gap up to this reader, or to the end, where tasks stand at these steps: it is made before the step,
+        the reader comes after it, and each other reader before it, or not before the reader."""
+        is_made = self.maker is None or place[self.maker] < step
+        if reader is None:
+            return is_made
+        others = (place[other] for other in self.readers if other != reader)
+        return is_made and step < place[reader] and all(other < step or other >= place[reader] for other in others)
 
-class SharedSystem(Tasks):
-    """Tasks with what they need, and items that any number of them read."""
+
+class SharedSystem(SizedTasks):
+    """Tasks, and items that any number of them read."""
 
     def __init__(self, tasks: list[tuple[int, int, int]], items: list[SharedItem]) -> None:
         """Tasks are their extra, share and time."""
-        super().__init__(len(tasks))
+        super().__init__(tasks, [sum(item.size for item in items if item.maker == task) for task in range(len(tasks))])
         self.tasks, self.items = tasks, items
         for item in items:
             for reader in item.readers if item.maker is not None else []:
                 self.suppliers[reader].add(item.maker)
-        made = [sum(item.size for item in items if item.maker == task) for task in range(self.count)]
-        self.needs = [extra + out - share for (extra, share, _), out in zip(tasks, made)]
         # by the set of tasks that are done
         self.memories: dict[int, int] = {}
 
     def memory(self, done: int) -> int:
-        """What is there between tasks, where those of this set are done."""
         if done not in self.memories:
             self.memories[done] = sum(item.size for item in self.items if item.is_held(done))
         return self.memories[done]
@@ -368,6 +444,19 @@ class SharedSystem(Tasks):
             done |= 1 << number - 1
             peak = max(peak, running, self.memory(done))
         return peak
+
+    def own_need(self, number: int) -> int:
+        return sum(item.size for item in self.items if number - 1 in item.readers) + self.needs[number - 1]
+
+    def held(self, order: list[int]) -> dict[tuple[int, ...], Held]:
+        """The gaps between the uses of each item, by the numbers of the item and of the reader that a gap goes up to; 0 is the end."""
+        place = {number - 1: step for step, number in enumerate(order)}
+        gaps: dict[tuple[int, ...], Held] = {}
+        for number, item in enumerate(self.items, 1):
+            for reader in item.readers or [None]:
+                steps = [step for step in range(len(order)) if item.waits_across(step, reader, place)]
+                gaps[number, 0 if reader is None else reader + 1] = Held(item.size, steps)
+        return gaps
 
     def shared_items(self) -> list[SharedItem]:
         """The items that several tasks read."""

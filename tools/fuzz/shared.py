@@ -1,5 +1,5 @@
 #!/usr/bin/env python3
-"""Tries all orders of random small task graphs of version 2, in which data have several readers, and runs `replay` on them.
+"""Tries all orders of random small task graphs of version 2, in which data have several readers, and runs `replay`, `simulate` and `spill` on them.
 
 usage: shared.py [PROGRAM] [--graphs N] [--first N] [--seed S] [--jobs J] [--keep FOLDER]      (PROGRAM is crates/memplan/out/memplan)
 
@@ -10,11 +10,16 @@ it asks:
 - the graph of version 1 in which a task of its own takes up what several tasks read, after all of them, has the same least peak: of the one
   all orders are tried, of the other all sets of tasks that are done;
 - an order of least peak, with those tasks put in, has that peak there, and both graphs are accepted by the plain reader of formats.py;
+- a run of the model within the peak of an order comes to its end within its bound, on any number of workers and by any priority;
+- where all amounts of the gaps can be tried, the least volume that is spilled is that of the model, and what `spill` chooses has it and fits;
+- where no item has several readers, runs and least volumes are those of the system of one reader each;
 - `replay` prints the model's peak of a random traversal, of the graph and, with those tasks put in, of the graph of version 1;
-- it tells the model's first fault of a random list that is no traversal;
-- a file that is changed in a few bytes, tokens or lines is refused as the plain reader refuses it, or has the peak or the fault of what it says.
+- `simulate` prints the model's run, event by event, and refuses a bound below the peak;
+- `spill` prints the model's least volume, and amounts with which each step fits, or tells the first step that needs too much for itself;
+- they tell the model's first fault of a random list that is no traversal;
+- a file that is changed in a few bytes, tokens or lines is refused as the plain reader refuses it, or has what it says.
 
-Without PROGRAM the first two are asked alone. It prints how many graphs and orders were tried. A graph that is wrong is kept in FOLDER, and the
+Without PROGRAM the models alone are asked. It prints how many graphs and orders were tried. A graph that is wrong is kept in FOLDER, and the
 status is then 1.
 """
 import argparse
@@ -29,11 +34,15 @@ from pathlib import Path
 from typing import NamedTuple, Optional
 
 import formats
-from bench import DONE, FORMAT, LIMIT, NO, SECONDS, Bench, Ending
-from models import SharedSystem, collected, numbers, shared_system_of_graph, system_of_graph
+from bench import BOUND, DONE, FORMAT, LIMIT, NO, SECONDS, WORKING_SET, Bench, Ending
+from judge import ending_of_spill
+from models import SharedSystem, Simulation, Spilling, collected, shared_system_of_graph, system_of_graph
 from random_files import changed, graph_text, listed, random_shared_graph, random_traversal
 
-REPLAY = ["replay", "--graph", "g", "--order", "o"]
+GRAPH_AND_ORDER = ["--graph", "g", "--order", "o"]
+
+# No more amounts than these are tried.
+MOST_TRIALS = 3000
 
 
 class Result(NamedTuple):
@@ -58,14 +67,59 @@ def no_traversal(draw: random.Random, system: SharedSystem) -> list[int]:
             return tried
 
 
-def expected(graph: bytes, order: bytes) -> Ending:
-    """How `replay` has to end."""
-    _, refusal = formats.refusal_of(lambda: formats.read_graph_of_either_version(graph))
-    if refusal:
-        return Ending(FORMAT if refusal.startswith("format") else LIMIT, f"refused {refusal}\n".encode(), b"")
-    system, tasks = shared_system_of_graph(graph), numbers(order)
-    fault = system.fault(tasks)
-    return Ending(NO, fault.encode(), b"") if fault else Ending(DONE, f"peak {system.peak(tasks)}\n".encode(), b"")
+class Asked(NamedTuple):
+    """What is asked of a graph and an order beside its peak: a run of so many workers within a bound, and by a priority if there is one; and a spill
+    within so much memory."""
+
+    bound: int
+    workers: int
+    priority: list[int]
+    memory: int
+
+    def words(self) -> dict[str, list[str]]:
+        """The words of each command."""
+        run = ["--bound", str(self.bound), "--workers", str(self.workers), *(["--priority", "r"] if self.priority else [])]
+        return {
+            "replay": ["replay", *GRAPH_AND_ORDER],
+            "simulate": ["simulate", *GRAPH_AND_ORDER, *run],
+            "spill": ["spill", *GRAPH_AND_ORDER, "--bound", str(self.memory)],
+        }
+
+
+def random_asked(draw: random.Random, system: SharedSystem, order: list[int]) -> Asked:
+    """A bound round the peak, and memory from the greatest need of a step up to it; now and then no priority, or one of a task more."""
+    peak, least = system.peak(order), max(map(system.own_need, order), default=0)
+    bound = max(0, peak + draw.choice([-1, -1 - draw.randint(0, peak), 0, 0, 0, 1, draw.randint(0, peak), draw.randint(0, peak), 2**64 - 1 - peak]))
+    memory = draw.randint(least, max(least, peak)) if draw.random() < 0.9 else draw.randint(0, peak)
+    return Asked(bound, draw.randint(1, 3), random_priority(draw, order), memory)
+
+
+def random_priority(draw: random.Random, order: list[int]) -> list[int]:
+    count = len(order) + 1 if draw.random() < 0.03 else len(order)
+    return draw.sample(range(1, count + 1), count) if draw.random() < 0.7 else []
+
+
+def refusal_of(graph: bytes, priority: Optional[bytes]) -> Optional[Ending]:
+    """How a run has to end where one of its files is refused."""
+    count, refusal = formats.refusal_of(lambda: formats.read_graph_of_either_version(graph))
+    if priority is not None and not refusal:
+        _, refusal = formats.refusal_of(lambda: formats.read_permutation("priority", priority, count))
+    return Ending(FORMAT if refusal.startswith("format") else LIMIT, f"refused {refusal}\n".encode(), b"") if refusal else None
+
+
+def report_of(command: str, system: SharedSystem, order: list[int], asked: Asked, told: str) -> tuple[int, str]:
+    """The status of a command and what it has to print, where this is what it printed: of spills there may be several of least volume."""
+    if fault := system.fault(order):
+        return NO, fault
+    peak = system.peak(order)
+    if command == "replay":
+        return DONE, f"peak {peak}\n"
+    if command == "spill":
+        text = ending_of_spill(Spilling(system, order, asked.memory), "gaps", told)
+        return WORKING_SET if text.startswith("refused") else DONE, text
+    if asked.bound < peak:
+        return BOUND, f"refused bound {asked.bound} {peak}\n"
+    return DONE, Simulation(system, order, asked.priority or order, asked.bound, asked.workers).report()
 
 
 class Trial:
@@ -78,8 +132,13 @@ class Trial:
         self.peaks = {order: self.system.peak(order) for order in self.system.traversals()}
         self.graph = collected(self.system)
 
+        self.order = random_traversal(draw, self.system)
+        self.asked = random_asked(draw, self.system, self.order)
+
     def wrongs(self) -> Iterator[str]:
         yield from self.wrongs_of_models()
+        yield from self.wrongs_of_runs()
+        yield from self.wrongs_of_spills()
         if self.bench:
             yield from self.wrongs_of_program()
 
@@ -98,21 +157,56 @@ class Trial:
             if refusal:
                 yield f"the plain reader refuses a graph: {refusal}"
 
+    def wrongs_of_runs(self) -> Iterator[str]:
+        """What is proved of each run within a bound that is no less than the peak."""
+        order, bound = self.order, max(self.asked.bound, self.system.peak(self.order))
+        priority = self.draw.sample(order, len(order))
+        run = Simulation(self.system, order, priority, bound, self.asked.workers)
+        report = run.report()
+        if len(run.events) != 3 * len(order) or not run.most_used <= run.most_booked <= bound:
+            yield f"a run of the model stands still, or passes {bound}: {report!r}"
+        other = Simulation(system_of_graph(self.graph), order, priority, bound, self.asked.workers)
+        if not self.system.shared_items() and other.report() != report:
+            yield "the system of one reader each has another run"
+
+    def wrongs_of_spills(self) -> Iterator[str]:
+        spilling = Spilling(self.system, self.order, self.asked.memory)
+        if spilling.working_set():
+            return
+        volume, chosen = spilling.least_volume(), spilling.chosen()
+        if not spilling.is_plan(chosen) or sum(chosen.values()) != volume:
+            yield f"the model's choice {chosen} is no plan of the volume {volume}"
+        if spilling.trials() <= MOST_TRIALS and spilling.least_by_trial() != volume:
+            yield f"the least volume of all amounts is {spilling.least_by_trial()}, and {volume} by the model"
+        if not self.system.shared_items() and Spilling(system_of_graph(self.graph), self.order, self.asked.memory).least_volume() != volume:
+            yield "the system of one reader each has another least volume"
+
     def wrongs_of_program(self) -> Iterator[str]:
-        order = random_traversal(self.draw, self.system)
+        order, whole = self.order, self.system.with_collectors(self.order)
+        other = self.asked._replace(priority=random_priority(self.draw, whole))
         cases = {
-            "a traversal": (self.text, order),
-            "a list that is no traversal": (self.text, no_traversal(self.draw, self.system)),
-            "a traversal of the graph of version 1": (graph_text(self.graph), self.system.with_collectors(order)),
-            "a changed file": (changed(self.draw, self.text), order),
+            "a traversal": (self.text, order, self.asked),
+            "a list that is no traversal": (self.text, no_traversal(self.draw, self.system), self.asked),
+            "a traversal of the graph of version 1": (graph_text(self.graph), whole, other),
+            "a changed file": (changed(self.draw, self.text), order, self.asked),
         }
-        for name, (graph, tasks) in cases.items():
-            files = graph, listed(self.draw, tasks)
-            self.bench.write("g", files[0])
-            self.bench.write("o", files[1])
-            found, wanted = self.bench.run(REPLAY), expected(*files)
+        for name, (graph, tasks, asked) in cases.items():
+            for wrong in self.wrongs_of_files(graph, tasks, asked):
+                yield f"{name}, {tasks}: {wrong}"
+
+    def wrongs_of_files(self, graph: bytes, tasks: list[int], asked: Asked) -> Iterator[str]:
+        """Each command over a graph and a list of tasks."""
+        priority = listed(self.draw, asked.priority)
+        for name, text in {"g": graph, "o": listed(self.draw, tasks), "r": priority}.items():
+            self.bench.write(name, text)
+        for command, words in asked.words().items():
+            found = self.bench.run(words)
+            wanted = refusal_of(graph, priority if "--priority" in words else None)
+            if not wanted:
+                status, text = report_of(command, shared_system_of_graph(graph), tasks, asked, found.report.decode("latin-1"))
+                wanted = Ending(status, text.encode(), b"")
             if found != wanted:
-                yield f"{name}, {tasks}: {found} in place of {wanted}"
+                yield f"{' '.join(words)}: {found} in place of {wanted}"
 
 
 class Worker:

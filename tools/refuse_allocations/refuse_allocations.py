@@ -40,6 +40,10 @@ simulate --tree four.tree --order four.order --priority four.priority --bound 6 
 simulate --tree five.tree --plan five.plan --bound 22 --workers 4096
 spill --tree five.tree --order five.order --bound 10
 spill --workflow branches.workflow --order branches.order --bound 12
+replay --graph shared.graph --order shared.order
+simulate --graph shared.graph --order shared.order --bound 16 --workers 2
+simulate --graph four.graph --order four.order --priority four.priority --bound 14 --workers 1
+spill --graph shared.graph --order shared.order --bound 13
 reduce --graph four.graph
 reduce --graph bridge.graph
 fronts --matrix arrow.mtx --perm arrow.perm --bound 4 --workers 2
@@ -57,6 +61,7 @@ demo --seed 1 --tasks 40 --kind workflow
 demo --kind grid --rows 4 --cols 5
 upgrade --tree five.tree
 upgrade --workflow branches.workflow
+upgrade --graph four.graph
 upgrade --plan four.plan --priority four.priority
 replay --tree cycle.tree --order two.order
 replay --tree five.tree --order two.order
@@ -64,6 +69,8 @@ replay --tree five.tree --order none
 check --tree four.tree --plan five.plan
 simulate --tree five.tree --order five.order --bound 10 --workers 2
 spill --tree five.tree --order five.order --bound 9
+simulate --graph shared.graph --order shared.order --bound 15 --workers 2
+spill --graph shared.graph --order shared.order --bound 11
 fronts --matrix arrow.mtx --perm arrow.perm --bound 3 --workers 2
 tree --matrix arrow.mtx --perm three.order
 plan --tree five.tree --print xml

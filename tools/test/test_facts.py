@@ -86,9 +86,8 @@ OF_LIMITS = [
     ("python/memplan/__init__.py", r"more than 4,000,001 claims", "more than 4,000,000 claims", "MANY_CLAIMS is 4000000 and not 4000001"),
     ("python/memplan/__init__.py", r'"""A call was refused\.', '"""A call was refused, of more than 1,000,000 tasks.', "python/memplan/__init__.py, which states no limit elsewhere"),
     (ADMISSION, r"is greater than 2\^40", "is greater than 2^41", f"ITEM_SIZE is {2**41} and not {2**40}, SIZE is {2**41} and not {2**40}"),
-    (ADMISSION, r"are over 4,000,001 ", "are over 4,000,000 ", "MANY_ITEMS of its table is 4000000 and not 4000001"),
-    (ADMISSION, r"of the 4,096 workers", "of the 4,095 workers", "of the N workers of a core is 4095 and not 4096"),
-    (ADMISSION, r"MOST_RUNNING = 4095", "MOST_RUNNING = 4096", "RUNNING is 4096 and not 4095"),
+    (ADMISSION, r"are over 10,000,000 ", "are over 10,000,001 ", "MANY_USES of its table is 10000001 and not 10000000"),
+    (ADMISSION, r"MOST_RUNNING = 4096", "MOST_RUNNING = 4095", "RUNNING is 4095 and not 4096"),
     (ADMISSION, r'10: "there is no task"', '10: "there is no task, of 1,000,000 that there may be"', "NO_NODE is 1000000 and not there"),
     (ADMISSION, r"\n_FORMAT = 3", "\n_FORMAT = 3  # of 2^40", f"{ADMISSION}, which states no limit elsewhere"),
     ("python/memplan/_numbers.py", r"at most 2\^60 together", "at most 2^62 together", f"sizes are at most N together is {2**62} and not {2**60}"),
@@ -113,6 +112,8 @@ COMMANDS = [
     ("tools/commands.py", r'"triangle\|square"', '"square|triangle"', "shape is square|triangle and not triangle|square"),
     ("tools/commands.py", r"0, 2\*\*40\)", "0, 2**41)", "amalgamate is 0 to 2199023255552 and not 0 to 1099511627776"),
     ("tools/commands.py", r"    10: .*\n", "", "10 is missing and not 10"),
+    ("tools/explaining/formats.py", r'\("replay", "simulate", ', '("replay", ', "tools/explaining/formats.py: simulate is missing and not graph"),
+    (FUZZ, r'"matrix", "graph"\}, \[\{"order", "plan"\}, \{"bound"\}\]', '"matrix"}, [{"order", "plan"}, {"bound"}]', "spill is amalgamate bound inplace"),
     (FUZZ, r'"seed": \(0, ', '"seed": (1, ', "seed is 1 to 18446744073709551615 and not 0 to 18446744073709551615"),
 ]
 CHANGES = [*STATUSES, *FAULTS, *REFUSALS, *OF_LIMITS, *COMMANDS]

@@ -114,7 +114,7 @@ WRONG: List[Tuple[str, List[str]]] = [
     ("plan --tre five.tree", ["there is no option --tre of plan; do you mean --tree?"]),
     ("plan --martix arrow.mtx", ["there is no option --martix of plan; do you mean --matrix?"]),
     ("plan -tree five.tree", ["-tree: an option begins with two hyphens, as --tree"]),
-    (f"plan {GRAPH}", ["--graph is no option of plan, but of replay, reduce, upgrade"]),
+    (f"plan {GRAPH}", ["--graph is no option of plan, but of replay, simulate, spill, reduce, upgrade"]),
     (f"post {WORKFLOW}", ["--workflow is no option of post, but of plan, check"]),
     (f"tree {TREE}", ["--tree is no option of tree, but of plan"]),
     ("plan --tree", ["--tree has no value; it is --tree FILE"]),
@@ -143,6 +143,12 @@ WRONG: List[Tuple[str, List[str]]] = [
     (f"simulate {TREE} {ORDER} --workers 2", ["simulate wants --bound"]),
     (f"simulate {TREE} {ORDER} --bound 1GB --workers 2", ["--bound 1GB: 1GB is no whole number"]),
     (f"spill {TREE} {ORDER} --bound 18446744073709551616", ["a number from 0 to 18446744073709551615"]),
+    (f"simulate {GRAPH} {TREE} {ORDER} --bound 16 --workers 2", ["of --tree, --workflow, --matrix and --graph one alone is given"]),
+    (f"simulate {GRAPH} {PERM} {ORDER} --bound 16 --workers 2", ["--perm goes with --matrix, which is not given"]),
+    (f"simulate {GRAPH} {ORDER} --bound 16", ["simulate wants --workers"]),
+    (f"spill {ORDER} --bound 16", ["spill wants --tree, --workflow, --matrix or --graph"]),
+    (f"spill {GRAPH} {ORDER}", ["spill wants --bound"]),
+    (f"spill {GRAPH} {ORDER} --bound 16 --workers 2", ["--workers is no option of spill, but of check, fronts, simulate"]),
     (f"fronts {MATRIX} --bound 4", ["fronts wants --workers"]),
     (f"reduce {WORKFLOW}", ["--workflow is no option of reduce"]),
     (f"upgrade {TREE} --priority four.priority", ["--priority goes with --plan, which is not given"]),
@@ -189,7 +195,8 @@ def alter(text: str, old: str, new: str) -> str:
     return text.replace(old, new, 1)
 
 
-FIVE, FIVE_PLAN, ARROW, BRANCHES, FOUR = (example(it) for it in ("five.tree", "five.plan", "arrow.mtx", "branches.workflow", "four.graph"))
+EXAMPLES = ("five.tree", "five.plan", "arrow.mtx", "branches.workflow", "four.graph", "shared.graph")
+FIVE, FIVE_PLAN, ARROW, BRANCHES, FOUR, SHARED = (example(it) for it in EXAMPLES)
 POST = "peak 15\norder 5\n1\n2\n3\n4\n5\nend\n"
 JSON = '{"claims":[],"order":[1],"peak":9}\n'
 FROM_0 = "1 1 9 1", "4 5 0 1", "3 1 9 1", "4 5 0 1"
@@ -301,6 +308,7 @@ BROKEN: List[Tuple[str, str, Text, str, List[str]]] = [
     ("a ring", "graph", put(FOUR, 11, "4 1 2"), "refused format graph cycle 3", ["ring waits for the next one: 1, 4, 2, 1"]),
     ("names", "graph", put(FOUR, 8, "load sort 5"), "refused format graph number 8", ["`load` is no number"]),
     ("a workflow", "graph", BRANCHES, "refused format graph header 1", ["is a workflow file, which is given by `--workflow`"]),
+    ("version 2", "graph", put(FOUR, 1, "graph 2"), "refused format graph header 1", ["`reduce` takes version 1 alone", "`replay`, `simulate`, `spill` and `upgrade` take both"]),
     ("arcs 5 for 4", "graph", put(FOUR, 7, "arcs 5"), "refused format graph number 12", ["`end` comes after 4 arcs, and there is `arcs 5`"]),
 ]
 STATUS = {"refused format": 3, "refused limit": 4}
@@ -348,7 +356,25 @@ class Files(FilesTest):
         run = f"{TREE} --order five.postorder --bound"
         self.check(f"simulate {run} 11 --workers 2".split(), 5, "refused bound 11 15", "its peak is 15", "--bound 15 or more")
         self.check(f"spill {run} 9".split(), 10, "refused working-set 1 10 9", "place 1 of the order needs 10 by itself", "10 or more")
-        self.check("reduce --graph bridge.graph".split(), 9, "refused graph rest 7", "not series-parallel: 7 arcs are left")
+        self.check("reduce --graph bridge.graph".split(), 9, "refused graph rest 7", "not series-parallel: 7 arcs are left", "`simulate` and `spill` take any graph")
+
+    def test_orders_and_items_of_graphs(self) -> None:
+        # tasks 2, 3 and 4 read what task 1 makes, and task 5 what they make
+        self.write("my.graph", SHARED)
+        self.write("my.order", "1 2 5 3 4\n")
+        run = "--graph my.graph --order my.order"
+        early = "Place 3 of the order has task 5, before a task whose data it takes up: task 3 comes first"
+        for words in (f"replay {run}", f"simulate {run} --bound 16 --workers 2", f"spill {run} --bound 12"):
+            self.check(words.split(), 1, "no order 3 too-early", early, "A task comes after those that make what it reads")
+        self.write("my.order", "1 2 3 5\n")
+        self.check(f"replay {run}".split(), 1, "no order 4 too-early", "task 4 comes first")
+        self.write("my.order", "1 2 3 4\n")
+        self.check(f"replay {run}".split(), 1, "no order 5 missing", "task 5 is missing")
+        self.write("my.order", "1 2 3 4 5\n")
+        self.check(f"simulate {run} --bound 15 --workers 2".split(), 5, "refused bound 15 16", "its peak is 16", "--bound 16 or more")
+        self.check(f"spill {run} --bound 11".split(), 10, "refused working-set 2 12 11", "place 2 of the order needs 12 by itself", "12 or more")
+        self.write("my.graph", put(SHARED, 10, "10 1 2 4 3"))
+        self.check(f"spill {run} --bound 12".split(), 3, "refused format graph item 10", "The readers of an item rise")
 
     def test_files_that_cannot_be_read(self) -> None:
         fault = "memplan: read fault"
