@@ -17,7 +17,7 @@ use Rattle.shared_systems.specs.SharedMemory.{is_made, has_inputs}
 use Rattle.shared_systems.specs.SharedTraversal.{IsSharedTraversal}
 use Rattle.shared_systems.specs.Bounds.{IsSharedItemWithin, IsSharedSystem, item_arcs, use_arcs}
 use Rattle.shared_systems.proofs.WithoutCollectors.{stood}
-use Rattle.carried_graphs.specs.Paths.{reads_from, ComesAfter, reads, over, StandsBefore}
+use Rattle.shared_systems.specs.Paths.{reads_from, ComesAfter, reads, over, StandsBefore}
 use Rattle.carried_graphs.specs.Carried.{IsLastReader}
 
 -- ---- what a ready task reads is made

@@ -17,7 +17,7 @@ use Rattle.shared_systems.specs.SharedTraversal.{IsSharedTraversal}
 use Rattle.shared_systems.specs.Bounds.{IsSharedSystem}
 use Rattle.shared_systems.specs.Places.{place_in, last_place}
 use Rattle.shared_systems.proofs.OrderPlaces.{place-le, all_take}
-use Rattle.carried_graphs.specs.Paths.{ComesAfter, StandsBefore, IsRealizer}
+use Rattle.shared_systems.specs.Paths.{ComesAfter, StandsBefore, IsRealizer}
 use Rattle.carried_graphs.specs.Carried.{IsLastReader, IsLastIfAny, AreLastReaders}
 use Rattle.carried_graphs.specs.Places.{IsGreatest, AreGreatest, IsFirstOther, readers_at}
 use Rattle.carried_graphs.specs.Refusal.{HasLastIfAny}

@@ -5,7 +5,7 @@ use Rattle.std.specs.Prelude.{slice_index}
 use Rattle.graphs.specs.declared.arc.Arc.{Arc}
 use Rattle.graphs.specs.Graph.{TaskGraph}
 use Rattle.shared_systems.specs.Shared.{SharedTaskSystem, SharedItem, is_read_by, shared_item_at}
-use Rattle.carried_graphs.specs.Paths.{ComesAfter}
+use Rattle.shared_systems.specs.Paths.{ComesAfter}
 
 -- z reads the item, and each other reader comes before it
 pub record IsLastReader (system : SharedTaskSystem) (x : SharedItem) (z : ℕ) : Type 0 where

@@ -1,4 +1,3 @@
-pub mod Paths
 pub mod Carried
 pub mod Refusal
 pub mod Places

@@ -7,7 +7,7 @@ use Rattle.graphs.specs.Graph.{own_system}
 use Rattle.shared_systems.specs.Shared.{SharedTaskSystem}
 use Rattle.shared_systems.specs.SharedMemory.{shared_peak_of}
 use Rattle.shared_systems.specs.Samples.{task, shared_item}
-use Rattle.carried_graphs.specs.Paths.{ComesAfter, reads}
+use Rattle.shared_systems.specs.Paths.{ComesAfter, reads}
 use Rattle.carried_graphs.specs.Carried.{carried}
 
 abbrev pub arc : ℕ → ℕ → ℕ → Arc

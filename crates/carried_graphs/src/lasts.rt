@@ -2,7 +2,7 @@
 
 ghost use Rattle.std.specs.Prelude.{◌≡◌, ℕ, ◌+◌, ◌<◌, ◌≤◌, ◌^◌, All, IfOk, IfErr, MatchOption, length, slice_index};
 ghost use Rattle.shared_systems.specs.Places.{place_in};
-ghost use Rattle.carried_graphs.specs.Paths.{IsRealizer};
+ghost use Rattle.shared_systems.specs.Paths.{IsRealizer};
 ghost use Rattle.carried_graphs.specs.Carried.{AreLastReaders};
 ghost use Rattle.carried_graphs.specs.Places.{IsGreatest, AreGreatest, IsFirstOther};
 ghost use Rattle.carried_graphs.specs.Refusal.{IsLastReaderRefusal};

@@ -10,7 +10,7 @@ ghost use Rattle.shared_systems.specs.Shared.{SharedTaskSystem, SharedItem, shar
 ghost use Rattle.shared_systems.specs.SharedMemory.{shared_memory, shared_peak_of, has_inputs};
 ghost use Rattle.shared_systems.specs.SharedTraversal.{IsSharedTraversal, IsLeastShared};
 ghost use Rattle.shared_systems.specs.Bounds.{IsSharedSystem};
-ghost use Rattle.carried_graphs.specs.Paths.{ComesAfter, StandsBefore};
+ghost use Rattle.shared_systems.specs.Paths.{ComesAfter, StandsBefore};
 ghost use Rattle.carried_graphs.specs.Carried.{IsLastReader, AreLastReaders, carried, arc_count};
 
 /// A task that comes after another stands after it in every traversal.

@@ -1,8 +1,7 @@
 //! Shared systems as task graphs, where one reader of each item comes after all its other readers: it alone carries the item, and the
 //! others only wait for the producer. The graph has the same traversals with the same peaks, and one consumer for each item.
 //!
-//! The definitions stand in specs/: `Paths`, which tasks come after which, and two orders that tell it; `Carried`, last readers and the
-//! graph; `Refusal`. The laws stand in [`laws`].
+//! The definitions stand in specs/: `Carried`, last readers and the graph; `Refusal`. The laws stand in [`laws`].
 #![tactic(auto)]
 
 mod carrying;

@@ -6,7 +6,7 @@ use Rattle.std.proofs.lemmas.Bool.{and_parts, or_cases, or_left, or_right, eqb-t
 use Rattle.mp_system.specs.Memory.{stands_in}
 use Rattle.shared_systems.specs.Shared.{SharedTaskSystem}
 use Rattle.shared_systems.specs.SharedTraversal.{IsSharedTraversal}
-use Rattle.carried_graphs.specs.Paths.{reads_from, ComesAfter, reads, StandsBefore, IsRealizer}
+use Rattle.shared_systems.specs.Paths.{reads_from, ComesAfter, reads, StandsBefore, IsRealizer}
 
 -- whether v stands after u
 abbrev pub stand_so : List ℕ → ℕ → ℕ → Bool

@@ -2,7 +2,7 @@
 
 ghost use Rattle.std.specs.Prelude.{◌≡◌, IfOk};
 ghost use Rattle.carried_graphs.specs.Samples.{fork, table};
-ghost use Rattle.carried_graphs.specs.Paths.{IsRealizer};
+ghost use Rattle.shared_systems.specs.Paths.{IsRealizer};
 ghost use Rattle.carried_graphs_tests.specs.Twins.{twins};
 
 use carried_graphs::{LastReaderRefusal, carried_graph, last_readers};

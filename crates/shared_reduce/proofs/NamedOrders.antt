@@ -24,7 +24,7 @@ use Rattle.shared_systems.specs.SharedTraversal.{IsSharedTraversal}
 use Rattle.shared_systems.specs.Bounds.{IsSharedSystem, item_arcs, use_arcs}
 use Rattle.shared_systems.specs.OneReader.{shared_of, shared_item_of, readers_of}
 use Rattle.shared_systems.proofs.SameSystems.{to_own}
-use Rattle.carried_graphs.specs.Paths.{reads_from, ComesAfter, reads, over, StandsBefore, IsRealizer}
+use Rattle.shared_systems.specs.Paths.{reads_from, ComesAfter, reads, over, StandsBefore, IsRealizer}
 use Rattle.carried_graphs.proofs.Following.{is_the, all_parts, reader_task}
 use Rattle.sp_reduce.specs.Reduced.{HasSystem}
 use Rattle.sp_reduce.proofs.NamedTerms.{is-renamed}

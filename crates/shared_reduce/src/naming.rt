@@ -7,7 +7,7 @@ ghost use Rattle.graphs.specs.Graph.{completed_system};
 ghost use Rattle.sp_reduce.specs.Reduced.{HasSystem};
 ghost use Rattle.shared_systems.specs.Shared.{SharedTaskSystem};
 ghost use Rattle.shared_systems.specs.Bounds.{IsSharedSystem};
-ghost use Rattle.carried_graphs.specs.Paths.{IsRealizer};
+ghost use Rattle.shared_systems.specs.Paths.{IsRealizer};
 ghost use Rattle.shared_reduce.specs.Uses.{uses_of};
 
 use crate::NoMemory;

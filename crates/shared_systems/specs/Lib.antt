@@ -1,6 +1,7 @@
 pub mod Shared
 pub mod SharedMemory
 pub mod SharedTraversal
+pub mod Paths
 pub mod Freed
 pub mod Collected
 pub mod Woven

@@ -1,9 +1,9 @@
 //! Systems in which an item may have any number of readers: an item is held from the end of its producer to the end of the last of them.
 //!
-//! The definitions stand in specs/: `Shared`, `SharedMemory`, `SharedTraversal`; `Bounds`, what a system keeps to; `Given`, the system that a
-//! caller's arrays give, and `Judged`, what they are refused with; `Growing`, items that are made one by one; `OneReader`, the systems of
-//! `mp_system` as shared systems; `Collected` and `Woven`, the system of `mp_system` that stands for one, in which each item has at most one
-//! consumer. The laws stand in [`laws`].
+//! The definitions stand in specs/: `Shared`, `SharedMemory`, `SharedTraversal`; `Paths`, which tasks come after which; `Bounds`, what a
+//! system keeps to; `Given`, the system that a caller's arrays give, and `Judged`, what they are refused with; `Growing`, items that are made
+//! one by one; `OneReader`, the systems of `mp_system` as shared systems; `Collected` and `Woven`, the system of `mp_system` that stands for
+//! one, in which each item has at most one consumer. The laws stand in [`laws`].
 #![tactic(auto)]
 
 mod collecting;

@@ -9,7 +9,7 @@ use Rattle.sp_terms.specs.SystemOfTerm.{task_count, task_count_of_parts, own_num
 use Rattle.shared_systems.specs.OneReader.{shared_of}
 use Rattle.shared_systems.proofs.SameSystems.{from_own}
 use Rattle.shared_systems.proofs.WithoutCollectors.{stood}
-use Rattle.carried_graphs.specs.Paths.{StandsBefore, IsRealizer}
+use Rattle.shared_systems.specs.Paths.{StandsBefore, IsRealizer}
 use Rattle.term_orders.specs.declared.side.Side.{Side}
 use Rattle.term_orders.specs.declared.side.Side.TheVariants.{FirstPart, LastPart}
 use Rattle.term_orders.specs.TermOrders.{order_of, order_of_parts}

@@ -14,7 +14,7 @@ use Rattle.mp_system.proofs.RenamingNames.{name_once}
 use Rattle.mp_system.proofs.RenamingOrders.{traversal_named}
 use Rattle.shared_systems.specs.OneReader.{shared_of}
 use Rattle.shared_systems.proofs.SameSystems.{to_own, from_own}
-use Rattle.carried_graphs.specs.Paths.{ComesAfter, reads, over, StandsBefore, IsRealizer}
+use Rattle.shared_systems.specs.Paths.{ComesAfter, reads, over, StandsBefore, IsRealizer}
 use Rattle.term_orders.proofs.TermPaths.{leads, reads_same}
 
 -- ---- items that lead from a task to a task

@@ -11,7 +11,7 @@ use Rattle.sp_terms.specs.Term.{Term, hold, series, par, Parts, no_parts, part, 
 use Rattle.sp_terms.specs.SystemOfTerm.{task_count, task_count_of_parts, own_number, items_of_term, items_of_parts}
 use Rattle.shared_systems.specs.OneReader.{readers_of, shared_item_of, shared_of}
 use Rattle.shared_systems.specs.Shared.{is_made_by, is_read_by}
-use Rattle.carried_graphs.specs.Paths.{ComesAfter, reads}
+use Rattle.shared_systems.specs.Paths.{ComesAfter, reads}
 use Rattle.carried_graphs.proofs.Following.{joined}
 
 -- ---- paths in a list of items

@@ -5,7 +5,7 @@ ghost use Rattle.mp_system.specs.Renaming.{IsRenamed, name_in};
 ghost use Rattle.sp_terms.specs.Term.{Term, IsAllowed};
 ghost use Rattle.sp_terms.specs.SystemOfTerm.{system_of_term};
 ghost use Rattle.shared_systems.specs.OneReader.{shared_of};
-ghost use Rattle.carried_graphs.specs.Paths.{IsRealizer};
+ghost use Rattle.shared_systems.specs.Paths.{IsRealizer};
 ghost use Rattle.term_orders.specs.TermOrders.{order_of};
 ghost use Rattle.term_orders.specs.declared.side.Side.TheVariants.{FirstPart, LastPart};
 

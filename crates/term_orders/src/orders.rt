@@ -2,7 +2,7 @@ ghost use Rattle.std.specs.Prelude.{◌≡◌, IfOk};
 ghost use Rattle.sp_terms.specs.Values.{term_of};
 ghost use Rattle.sp_terms.specs.SystemOfTerm.{system_of_term};
 ghost use Rattle.shared_systems.specs.OneReader.{shared_of};
-ghost use Rattle.carried_graphs.specs.Paths.{IsRealizer};
+ghost use Rattle.shared_systems.specs.Paths.{IsRealizer};
 ghost use Rattle.term_orders.specs.TermOrders.{order_of};
 
 use crate::NoMemory;

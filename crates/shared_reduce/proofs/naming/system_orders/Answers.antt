@@ -1,7 +1,7 @@
 use Rattle.std.proofs.Common.{ℕ, List, map, ap, sym, subst, ◌∙◌}
 use Rattle.mp_system.specs.Renaming.{name_in}
 use Rattle.sp_terms.specs.Values.{term_of}
-use Rattle.carried_graphs.specs.Paths.{IsRealizer}
+use Rattle.shared_systems.specs.Paths.{IsRealizer}
 use Rattle.shared_reduce.proofs.NamedOrders.{realizer_named}
 use Rattle.shared_reduce.proofs.naming.system_orders.Goals as goal
 
