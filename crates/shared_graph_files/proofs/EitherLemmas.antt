@@ -8,7 +8,10 @@ use Rattle.shared_systems.specs.Bounds.{IsSharedSystem}
 use Rattle.shared_systems.specs.OneReader.{shared_of}
 use Rattle.graph_files.specs.declared.kind.GraphKind.{GraphKind}
 use Rattle.graph_files.specs.GraphFile.{ReadsGraph, RefusesGraph}
-use Rattle.shared_graph_files.specs.EitherVersion.{ReadsAs, RefusesAs}
+use Rattle.shared_graph_files.specs.declared.either.EitherGraph.{EitherGraph}
+use Rattle.shared_graph_files.specs.declared.either.EitherGraph.TheVariants.{Arcs, Items}
+use Rattle.shared_graph_files.specs.SharedGraphFile.{ReadsItems}
+use Rattle.shared_graph_files.specs.EitherVersion.{ReadsAs, RefusesAs, StatesAs, system_of_either}
 use Rattle.shared_graph_files.proofs.FileLemmas as second
 
 -- what the law `exactly_one` says of files of version 1
@@ -55,3 +58,22 @@ pub read-is_system : ((bytes : List ℕ) (graph : TaskGraph) → ReadsGraph byte
 read-is_system graphs shared true bytes system reads = second.reads-is_system bytes system reads
 read-is_system graphs shared false bytes system reads =
     subst IsSharedSystem (sym reads.system_is) (shared reads.graph (graphs bytes reads.graph reads.read))
+
+-- what a file states is what it is read as
+pub stated_is_read : (is_second : Bool) (bytes : List ℕ) (stated : EitherGraph) → StatesAs is_second bytes stated
+    → ReadsAs is_second bytes (system_of_either stated)
+stated_is_read true bytes (Arcs graph) states = absurd states
+stated_is_read true bytes (Items system) states = states
+stated_is_read false bytes (Arcs graph) states = record { graph = graph; read = states; system_is = refl }
+stated_is_read false bytes (Items system) states = absurd states
+
+-- its version tells which of the two it states
+pub arcs_stated : (is_second : Bool) (bytes : List ℕ) (graph : TaskGraph) → StatesAs is_second bytes (Arcs graph)
+    → (is_second ≡ false) × ReadsGraph bytes graph
+arcs_stated true bytes graph states = absurd states
+arcs_stated false bytes graph states = (refl, states)
+
+pub items_stated : (is_second : Bool) (bytes : List ℕ) (system : SharedTaskSystem) → StatesAs is_second bytes (Items system)
+    → (is_second ≡ true) × ReadsItems bytes system
+items_stated true bytes system states = (refl, states)
+items_stated false bytes system states = absurd states

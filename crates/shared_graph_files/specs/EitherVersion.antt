@@ -10,11 +10,28 @@ use Rattle.shared_systems.specs.Shared.{SharedTaskSystem}
 use Rattle.shared_systems.specs.OneReader.{shared_of}
 use Rattle.graph_files.specs.declared.kind.GraphKind.{GraphKind}
 use Rattle.graph_files.specs.GraphFile.{ReadsGraph, RefusesGraph}
+use Rattle.shared_graph_files.specs.declared.either.EitherGraph.{EitherGraph}
+use Rattle.shared_graph_files.specs.declared.either.EitherGraph.TheVariants.{Arcs, Items}
 use Rattle.shared_graph_files.specs.SharedGraphFile.{says_second, ReadsItems, RefusesItems}
 
 -- whether the first line says version 2
 abbrev pub is_second : List ℕ → Bool
 is_second bytes = has_first (λ header rows. says_second header) (rows_of_bytes Commented bytes)
+
+-- a file of version 1 states a graph, and one of version 2 a system
+abbrev pub StatesAs : Bool → List ℕ → EitherGraph → Type 0
+StatesAs true bytes (Items system) = ReadsItems bytes system
+StatesAs true bytes (Arcs graph) = ⊥
+StatesAs false bytes (Items system) = ⊥
+StatesAs false bytes (Arcs graph) = ReadsGraph bytes graph
+
+abbrev pub StatesEither : List ℕ → EitherGraph → Type 0
+StatesEither bytes stated = StatesAs (is_second bytes) bytes stated
+
+-- the system of what is stated
+abbrev pub system_of_either : EitherGraph → SharedTaskSystem
+system_of_either (Arcs graph) = shared_of (own_system graph)
+system_of_either (Items system) = system
 
 -- a file of version 1 reads as the system of its graph
 pub record ReadsArcs (bytes : List ℕ) (system : SharedTaskSystem) : Type 0 where

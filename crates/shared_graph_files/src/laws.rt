@@ -6,7 +6,8 @@ ghost use Rattle.mp_text.specs.declared.refusals.Refusal.{Refusal};
 ghost use Rattle.graph_files.specs.declared.kind.GraphKind.{GraphKind};
 ghost use Rattle.shared_systems.specs.Shared.{SharedTaskSystem};
 ghost use Rattle.shared_systems.specs.Bounds.{IsSharedSystem};
-ghost use Rattle.shared_graph_files.specs.EitherVersion.{ReadsSharedGraph, RefusesSharedGraph};
+ghost use Rattle.shared_graph_files.specs.declared.either.EitherGraph.{EitherGraph};
+ghost use Rattle.shared_graph_files.specs.EitherVersion.{StatesEither, system_of_either, ReadsSharedGraph, RefusesSharedGraph};
 ghost use Rattle.shared_graph_files.specs.SharedGraphText.{graph_text_2};
 
 use graph_files::{GraphKind, laws as graph_laws};
@@ -27,6 +28,11 @@ pub fn exactly_one()
     text_laws::exactly_one::<GraphKind>();
     graph_laws::exactly_one();
 }
+
+/// What a file states is what it is read as: in version 1 the system of its graph.
+pub fn either_law()
+    ensures { (bytes : List ℕ) (stated : EitherGraph) → StatesEither bytes stated → ReadsSharedGraph bytes (system_of_either stated) }
+{}
 
 /// What a file is read as is a shared system within the limits.
 pub fn read_law()

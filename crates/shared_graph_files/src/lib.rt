@@ -14,7 +14,7 @@ mod reader;
 mod reading;
 mod stage;
 
-pub use either::read_shared_graph;
+pub use either::{EitherGraph, read_either_graph, read_shared_graph};
 pub use printing::print_shared_graph;
 use std::alloc::AllocError;
 
