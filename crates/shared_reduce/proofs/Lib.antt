@@ -1,2 +1,3 @@
 pub mod UseGraphs
 pub mod NamedOrders
+pub mod ToldOrders

@@ -1,2 +1,4 @@
 pub mod Uses
 pub mod Refusal
+pub mod SharedTerm
+pub mod Single

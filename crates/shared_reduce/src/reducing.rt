@@ -4,10 +4,12 @@ ghost use Rattle.graphs.specs.Graph.{completed_system};
 ghost use Rattle.sp_reduce.specs.Reduced.{HasSystem};
 ghost use Rattle.carried_graphs.specs.Carried.{AreLastReaders, carried};
 ghost use Rattle.shared_reduce.specs.Refusal.{IsSharedReduceRefusal};
+ghost use Rattle.shared_reduce.specs.SharedTerm.{IsSharedTerm, IsRefusedTerm};
 ghost use Rattle.shared_reduce.specs.Uses.{uses_of};
 
 use crate::naming::system_orders;
 use crate::refusal::SharedReduceRefusal;
+use crate::single::single_readers;
 use crate::uses::use_graph;
 use carried_graphs::{CarriedRefusal, LastReaderRefusal, carried_graph, last_readers};
 use shared_systems::SharedSystem;
@@ -32,7 +34,7 @@ fn reduce_uses(alloc: Global, system: &SharedSystem) -> Result<Reduced, SharedRe
 }
 
 // The last readers of a system, by the term of its graph of uses.
-fn find_lasts(alloc: Global, system: &SharedSystem) -> Result<Vec<u32>, SharedReduceRefusal>
+fn lasts_by_uses(alloc: Global, system: &SharedSystem) -> Result<Vec<u32>, SharedReduceRefusal>
     ensures lasts { IfOk result (λ lasts. AreLastReaders system.now lasts.items) }
     ensures refused { IfErr result (IsSharedReduceRefusal system.now) }
 {
@@ -46,6 +48,17 @@ fn find_lasts(alloc: Global, system: &SharedSystem) -> Result<Vec<u32>, SharedRe
     }
 }
 
+// The last readers of a system: the one reader of each item, or by the graph of uses where an item has several.
+fn find_lasts(alloc: Global, system: &SharedSystem) -> Result<Vec<u32>, SharedReduceRefusal>
+    ensures lasts { IfOk result (λ lasts. AreLastReaders system.now lasts.items) }
+    ensures refused { IfErr result (IsSharedReduceRefusal system.now) }
+{
+    match single_readers(alloc, system.items())? {
+        Some(lasts) => Ok(lasts),
+        None => lasts_by_uses(alloc, system),
+    }
+}
+
 // The term of the graph in which these last readers alone carry the items.
 fn reduce_carried(
     alloc: Global,
@@ -53,8 +66,8 @@ fn reduce_carried(
     lasts: &[u32],
 ) -> Result<Reduced, SharedReduceRefusal>
     requires { AreLastReaders system.now lasts.now }
-    ensures reduced { IfOk result (λ r. HasSystem r.names.items (term_of r.terms) (completed_system (carried lasts.now system.now))) }
-    ensures refused { IfErr result (IsSharedReduceRefusal system.now) }
+    ensures reduced { IfOk result (λ r. IsSharedTerm system.now r.names.items (term_of r.terms)) }
+    ensures refused { IfErr result (IsRefusedTerm system.now) }
 {
     let graph = match carried_graph(alloc, system, lasts) {
         Ok(graph) => graph,
@@ -69,13 +82,12 @@ fn reduce_carried(
 }
 
 /// A term whose system has the traversals of the shared system with their peaks, under the names of its tasks: that of the graph in which
-/// the last readers alone carry the items. Or why there is none: the graph of uses has no term, an item with readers has none that comes
+/// the last readers alone carry the items. The only reader of an item is its last. Or why there is none: the graph of uses has no term, an item with readers has none that comes
 /// after all the others, or the graph in which the last readers carry the items has no term or too many arcs. Expected linear in the tasks,
 /// the items and the readers of all items, but for the order of the rest.
 pub fn reduce_shared(alloc: Global, system: &SharedSystem) -> Result<Reduced, SharedReduceRefusal>
-    ensures reduced { IfOk result (λ r. (lasts : List ℕ) × AreLastReaders system.now lasts
-        × HasSystem r.names.items (term_of r.terms) (completed_system (carried lasts system.now))) }
-    ensures refused { IfErr result (IsSharedReduceRefusal system.now) }
+    ensures reduced { IfOk result (λ r. IsSharedTerm system.now r.names.items (term_of r.terms)) }
+    ensures refused { IfErr result (IsRefusedTerm system.now) }
 {
     let lasts = find_lasts(alloc, system)?;
     reduce_carried(alloc, system, &lasts)
