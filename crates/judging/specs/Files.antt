@@ -25,15 +25,17 @@ use Rattle.plans.specs.Plan.{PlanValue}
 use Rattle.plan_files.specs.PlanFile.{ReadsPlan, RefusesPlan}
 use Rattle.symbolic.specs.FrontTree.{IsFrontTree}
 use Rattle.graphs.specs.Graph.{TaskGraph}
-use Rattle.graph_files.specs.GraphFile.{ReadsGraph, RefusesGraph}
+use Rattle.graph_files.specs.GraphFile.{ReadsGraph}
 use Rattle.graph_files.specs.Kinds.{word_of as graph_word}
 use Rattle.shared_systems.specs.Shared.{SharedTaskSystem}
 use Rattle.shared_systems.specs.OneReader.{shared_of}
-use Rattle.shared_graph_files.specs.EitherVersion.{ReadsSharedGraph, RefusesSharedGraph}
+use Rattle.shared_graph_files.specs.declared.either.EitherGraph.{EitherGraph}
+use Rattle.shared_graph_files.specs.EitherVersion.{StatesEither, ReadsSharedGraph, RefusesSharedGraph}
+use Rattle.shared_graph_files.specs.SharedGraphFile.{ReadsItems}
 use Rattle.judging.specs.declared.status.Status.{Status}
 use Rattle.requests.specs.Request.{Ordering, natural, min_degree, perm_named, Matrix, TreeInput, tree_named, matrix_named, Input, tree_input}
 use Rattle.requests.specs.Request.{TaskSource, input_tasks, graph_tasks, shared_graph_file}
-use Rattle.requests.specs.Request.{workflow_named, OrderSource, order_named, plan_named, FileRole, tree_file, workflow_file, graph_file}
+use Rattle.requests.specs.Request.{workflow_named, OrderSource, order_named, plan_named, FileRole, tree_file, workflow_file}
 use Rattle.requests.specs.Request.{matrix_file, perm_file, order_file, plan_file, priority_file, plan_priority_file, NamedFile}
 use Rattle.workflow_files.specs.Kinds.{word_of as workflow_word}
 use Rattle.matrix_files.specs.OrderKinds.{perm_word, order_file_word}
@@ -91,10 +93,17 @@ IsTreeFile text nodes = IsWithinBytes text × ReadsTree text nodes
 abbrev pub IsWorkflowFile : List ℕ → List Position → Type 0
 IsWorkflowFile text positions = IsWithinBytes text × ReadsWorkflow text positions
 
+-- a task graph of version 1, and one of version 2
 abbrev pub IsGraphFile : List ℕ → TaskGraph → Type 0
 IsGraphFile text graph = IsWithinBytes text × ReadsGraph text graph
 
--- of either version
+abbrev pub IsItemsFile : List ℕ → SharedTaskSystem → Type 0
+IsItemsFile text system = IsWithinBytes text × ReadsItems text system
+
+-- of either version: what it states, and the system that it is read as
+abbrev pub IsEitherGraphFile : List ℕ → EitherGraph → Type 0
+IsEitherGraphFile text stated = IsWithinBytes text × StatesEither text stated
+
 abbrev pub IsSharedGraphFile : List ℕ → SharedTaskSystem → Type 0
 IsSharedGraphFile text system = IsWithinBytes text × ReadsSharedGraph text system
 
@@ -221,7 +230,6 @@ IsAcceptedPlanPriority (first ∷ earlier) text =
 abbrev pub IsRefusedInRole : FileRole → List (List ℕ) → List ℕ → Answer → Type 0
 IsRefusedInRole tree_file earlier text answer = IsRefusedFile (codes "tree") tree_word (RefusesTree text) text answer
 IsRefusedInRole workflow_file earlier text answer = IsRefusedFile (codes "workflow") workflow_word (RefusesWorkflow text) text answer
-IsRefusedInRole graph_file earlier text answer = IsRefusedFile (codes "graph") graph_word (RefusesGraph text) text answer
 IsRefusedInRole shared_graph_file earlier text answer =
     IsRefusedFile (codes "graph") graph_word (RefusesSharedGraph text) text answer
 IsRefusedInRole (matrix_file ordering) earlier text answer =
@@ -236,7 +244,6 @@ IsRefusedInRole plan_priority_file earlier text answer = IsRefusedPlanPriority e
 abbrev pub HasValue : FileRole → List (List ℕ) → List ℕ → Type 0
 HasValue tree_file earlier text = (nodes : List Node) × IsTreeFile text nodes
 HasValue workflow_file earlier text = (positions : List Position) × IsWorkflowFile text positions
-HasValue graph_file earlier text = (graph : TaskGraph) × IsGraphFile text graph
 HasValue shared_graph_file earlier text = (system : SharedTaskSystem) × IsSharedGraphFile text system
 HasValue (matrix_file ordering) earlier text = (rows : List (List ℕ)) × IsMatrixFile text rows × HasOrdering ordering (length rows)
 HasValue perm_file earlier text = IsAcceptedPerm earlier text

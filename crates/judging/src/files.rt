@@ -9,16 +9,14 @@ ghost use Rattle.matrix_files.specs.OrderFile.{ReadsOrder, RefusesOrder};
 ghost use Rattle.matrix_files.specs.PermFile.{ReadsPerm, RefusesPerm};
 ghost use Rattle.plan_files.specs.PlanFile.{ReadsPlan, RefusesPlan};
 ghost use Rattle.workflow_files.specs.WorkflowFile.{ReadsWorkflow, RefusesWorkflow};
-ghost use Rattle.graph_files.specs.GraphFile.{ReadsGraph, RefusesGraph};
-ghost use Rattle.shared_graph_files.specs.EitherVersion.{ReadsSharedGraph, RefusesSharedGraph};
+ghost use Rattle.shared_graph_files.specs.EitherVersion.{StatesEither, ReadsSharedGraph, RefusesSharedGraph};
 ghost use Rattle.tree_files.specs.TreeFile.{ReadsTree, RefusesTree};
 ghost use Rattle.judging.specs.Files.{IsRefusedFile, IsWithinBytes, limit_refused};
 ghost use Rattle.judging.specs.Judged.{IsStopAt, IsStopFor, IsJudged, IsRefusalOf, rank_word};
 
 use crate::page::{format_page, limit_page};
 use crate::stop::Stop;
-use graph_files::{GraphKind, read_graph};
-use graphs::Graph;
+use graph_files::GraphKind;
 use limits::LimitName;
 use matrix_files::{MatrixKind, OrderFileKind, PermKind, read_order, read_pattern, read_perm};
 use mp_outside::{Files, ReadRefusal, read_whole};
@@ -27,7 +25,7 @@ use patterns::Pattern;
 use permutations::Perm;
 use plan_files::{PlanKind, read_plan};
 use plans::Plan;
-use shared_graph_files::read_shared_graph;
+use shared_graph_files::{EitherGraph, read_either_graph, read_shared_graph};
 use shared_systems::SharedSystem;
 use sp_terms::TermList;
 use std::alloc::Global;
@@ -160,31 +158,31 @@ impl FileKind for WorkflowFile {
     }
 }
 
-/// A task graph file.
+/// A task graph file of either version, as it is stated.
 #[derive(Clone, Copy, Debug)]
-pub struct GraphFile;
+pub struct EitherGraphFile;
 
-impl FileKind for GraphFile {
-    type Value = Graph;
+impl FileKind for EitherGraphFile {
+    type Value = EitherGraph;
 
     type Kind = GraphKind;
 
     ghost file_word = { λ _. codes "graph" };
 
-    ghost reads = { λ _. ReadsGraph };
+    ghost reads = { λ _. StatesEither };
 
-    ghost refuses = { λ _. RefusesGraph };
+    ghost refuses = { λ _. RefusesSharedGraph };
 
     fn word(&self) -> &'static str {
         "graph"
     }
 
-    fn read(&self, alloc: Global, text: Vec<u8>) -> Result<Graph, Refusal<GraphKind>> {
-        read_graph(alloc, &text)
+    fn read(&self, alloc: Global, text: Vec<u8>) -> Result<EitherGraph, Refusal<GraphKind>> {
+        read_either_graph(alloc, &text)
     }
 }
 
-/// A task graph file of either version, whose items may have several readers.
+/// A task graph file of either version, as a system whose items may have several readers.
 #[derive(Clone, Copy, Debug)]
 pub struct SharedGraphFile;
 

@@ -11,7 +11,7 @@ mod status;
 mod stop;
 
 pub use files::{
-    FileKind, GraphFile, MatrixFile, OrderFile, PermFile, PlanFile, Ranked, SharedGraphFile,
+    EitherGraphFile, FileKind, MatrixFile, OrderFile, PermFile, PlanFile, Ranked, SharedGraphFile,
     TreeFile, WorkflowFile, judge,
 };
 pub use inputs::{

@@ -230,8 +230,7 @@ format_of true = as_json
 pub data FileRole : Type 0 where
   tree_file : FileRole
   workflow_file : FileRole
-  -- a task graph of version 1, or one of either version
-  graph_file : FileRole
+  -- a task graph, of either version
   shared_graph_file : FileRole
   -- a matrix whose rows are to be eliminated in this order
   matrix_file : Ordering → FileRole
@@ -297,4 +296,4 @@ files_of (upgrade u) = upgrade_files u
 files_of (spill tasks source bound) = task_files tasks ++ source_file source ∷ []
 files_of (segments input) = input_files input
 files_of (fronts m bound workers) = ordered_matrix_files m
-files_of (reduce name) = record { role = graph_file; name = name } ∷ []
+files_of (reduce name) = record { role = shared_graph_file; name = name } ∷ []
