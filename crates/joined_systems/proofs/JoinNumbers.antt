@@ -62,7 +62,7 @@ count-push : (joins : List ℕ) (j : ℕ) → join_count (joins ++ j ∷ []) ≡
 count-push [] j = omega arith
 count-push (i ∷ joins) j = omega (arith, count-push joins j)
 
-count_more : (joins : List ℕ) (i : ℕ) → i < length joins → join_count (take (i + 1) joins) ≡ max (join_count (take i joins)) (get_or joins i 0)
+pub count_more : (joins : List ℕ) (i : ℕ) → i < length joins → join_count (take (i + 1) joins) ≡ max (join_count (take i joins)) (get_or joins i 0)
 count_more joins i lt = ap join_count (take_more joins i 0 lt) ∙ count-push (take i joins) (get_or joins i 0)
 
 -- ---- joins that are counted from 1 each have a task

@@ -6,3 +6,4 @@ pub mod WithoutJoins
 pub mod JoinedStates
 pub mod WovenJoins
 pub mod SameLeast
+pub mod JoinCode

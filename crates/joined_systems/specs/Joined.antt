@@ -25,9 +25,13 @@ abbrev pub join_task : ℕ → ℕ → List ℕ
 join_task n zero = []
 join_task n (suc k) = (n + suc k) ∷ []
 
--- an item that all tasks of a join read is read by the join too, so it goes with the join
+-- an item with a join as one more reader, the last one
+abbrev pub with_task : ℕ → ℕ → SharedItem → SharedItem
+with_task n k x = record { size = x.size; from = x.from; readers = x.readers ++ join_task n k }
+
+-- an item that just the tasks of a join read is read by the join too, so it goes with the join
 abbrev pub released : ℕ → List ℕ → SharedItem → SharedItem
-released n joins x = record { size = x.size; from = x.from; readers = x.readers ++ join_task n (join_after joins x.readers) }
+released n joins x = with_task n (join_after joins x.readers) x
 
 -- an item that goes through no join, or through join k
 abbrev pub through : ℕ → ℕ → SharedItem → List SharedItem

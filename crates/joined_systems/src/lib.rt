@@ -6,3 +6,10 @@
 #![tactic(auto)]
 
 pub mod laws;
+
+mod building;
+
+use std::alloc::AllocError;
+
+/// Want of memory: an allocation was refused.
+pub type NoMemory = AllocError;
