@@ -1,3 +1,2 @@
 pub mod UseGraphs
 pub mod NamedOrders
-pub mod ToldOrders

@@ -13,10 +13,11 @@ ghost use Rattle.shared_systems.specs.SharedMemory.{shared_peak_of};
 ghost use Rattle.shared_systems.specs.SharedTraversal.{IsSharedTraversal, IsLeastShared};
 ghost use Rattle.shared_systems.specs.Bounds.{IsSharedSystem};
 ghost use Rattle.carried_graphs.specs.Carried.{AreLastReaders, carried};
-ghost use Rattle.shared_reduce.specs.SharedTerm.{IsSharedTerm, told};
+ghost use Rattle.shared_reduce.specs.SharedTerm.{IsCarriedTerm, IsSharedTerm, told};
 
 use carried_graphs::laws::carried_law;
 use graphs::laws::completion_law;
+use joined_systems::laws::joined_law;
 use mp_system::laws::renaming_law;
 use sp_reduce::laws::named_term_law;
 
@@ -34,6 +35,19 @@ pub fn shared_term_law()
         (IsLeastShared system peak ↔ IsLeast (system_of_term t) peak) }
 {
     named_term_law();
+    carried_law();
+}
+
+/// Each order of a carried term is by its names one of the shared system with the same peak, and each order of the system is so.
+pub fn carried_term_law()
+    ensures { (system : SharedTaskSystem) (names : List ℕ) (t : Term) (order : List ℕ) →
+        IsSharedSystem system → IsCarriedTerm system names t → IsSharedTraversal system order →
+        (other : List ℕ) × IsTraversal (system_of_term t) other × (map (name_in names) other ≡ order)
+        × (peak_of (system_of_term t) other ≡ shared_peak_of system order) }
+{
+    shared_term_law();
+    renaming_law();
+    completion_law();
     carried_law();
 }
 
@@ -56,9 +70,8 @@ pub fn told_term_law()
         (IsLeastShared system peak ↔ IsLeast (system_of_term t) peak) }
 {
     shared_term_law();
-    renaming_law();
-    completion_law();
-    carried_law();
+    carried_term_law();
+    joined_law();
 }
 
 /// The names of the term are at most as many as there can be tasks, and each is at most as great as the number of a task can be.
@@ -67,4 +80,6 @@ pub fn names_law()
         length names ≤ most_tasks }
     ensures within { (system : SharedTaskSystem) (names : List ℕ) (t : Term) → IsSharedSystem system → IsSharedTerm system names t →
         All (λ v. v ≤ most_tasks) names }
-{}
+{
+    joined_law();
+}

@@ -1,4 +1,4 @@
-//! Shared systems as series-parallel terms, where one reader of each item comes after all its other readers.
+//! Shared systems as series-parallel terms, where with their joins one reader of each item comes after all its other readers.
 //!
 //! The term of the graph of uses tells which tasks come after which, and so the last reader of each item; the graph in which the last
 //! readers alone carry the items has the same traversals with the same peaks, and its term is the answer.

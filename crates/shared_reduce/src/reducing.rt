@@ -4,7 +4,7 @@ ghost use Rattle.graphs.specs.Graph.{completed_system};
 ghost use Rattle.sp_reduce.specs.Reduced.{HasSystem};
 ghost use Rattle.carried_graphs.specs.Carried.{AreLastReaders, carried};
 ghost use Rattle.shared_reduce.specs.Refusal.{IsSharedReduceRefusal};
-ghost use Rattle.shared_reduce.specs.SharedTerm.{IsSharedTerm, IsRefusedTerm};
+ghost use Rattle.shared_reduce.specs.SharedTerm.{IsCarriedTerm, IsSharedTerm, IsRefusedTerm};
 ghost use Rattle.shared_reduce.specs.Uses.{uses_of};
 
 use crate::naming::system_orders;
@@ -12,6 +12,7 @@ use crate::refusal::SharedReduceRefusal;
 use crate::single::single_readers;
 use crate::uses::use_graph;
 use carried_graphs::{CarriedRefusal, LastReaderRefusal, carried_graph, last_readers};
+use joined_systems::join_tasks;
 use shared_systems::SharedSystem;
 use sp_reduce::{ReduceRefusal, Reduced, reduce};
 use std::alloc::Global;
@@ -66,8 +67,8 @@ fn reduce_carried(
     lasts: &[u32],
 ) -> Result<Reduced, SharedReduceRefusal>
     requires { AreLastReaders system.now lasts.now }
-    ensures reduced { IfOk result (λ r. IsSharedTerm system.now r.names.items (term_of r.terms)) }
-    ensures refused { IfErr result (IsRefusedTerm system.now) }
+    ensures reduced { IfOk result (λ r. IsCarriedTerm system.now r.names.items (term_of r.terms)) }
+    ensures refused { IfErr result (IsSharedReduceRefusal system.now) }
 {
     let graph = match carried_graph(alloc, system, lasts) {
         Ok(graph) => graph,
@@ -81,14 +82,15 @@ fn reduce_carried(
     }
 }
 
-/// A term whose system has the traversals of the shared system with their peaks, under the names of its tasks: that of the graph in which
-/// the last readers alone carry the items. The only reader of an item is its last. Or why there is none: the graph of uses has no term, an item with readers has none that comes
-/// after all the others, or the graph in which the last readers carry the items has no term or too many arcs. Expected linear in the tasks,
-/// the items and the readers of all items, but for the order of the rest.
+/// A term whose orders tell those of the shared system with their peaks: that of the graph in which the last readers of the system with its
+/// joins alone carry the items. Or why there is none: the graph of uses has no term, an item with readers has none that comes after all the
+/// others, or the graph in which the last readers carry the items has no term or too many arcs. Expected near linear in the tasks, the items
+/// and the readers of all items, but for the order of the rest.
 pub fn reduce_shared(alloc: Global, system: &SharedSystem) -> Result<Reduced, SharedReduceRefusal>
     ensures reduced { IfOk result (λ r. IsSharedTerm system.now r.names.items (term_of r.terms)) }
     ensures refused { IfErr result (IsRefusedTerm system.now) }
 {
-    let lasts = find_lasts(alloc, system)?;
-    reduce_carried(alloc, system, &lasts)
+    let joined = join_tasks(alloc, system)?;
+    let lasts = find_lasts(alloc, &joined)?;
+    reduce_carried(alloc, &joined, &lasts)
 }

@@ -1,42 +1,41 @@
-use Rattle.std.proofs.Common.{◌≡◌, ◌≤◌, ℕ, List, length, map, sym, ap, subst, ◌∙◌, arith}
+use Rattle.std.proofs.Common.{◌≡◌, ℕ, List, length, map, ap, subst, ◌∙◌, ◌≤◌, arith}
 use Rattle.mp_system.specs.Memory.{peak_of}
 use Rattle.mp_system.specs.Renaming.{name_in}
 use Rattle.sp_terms.specs.SystemOfTerm.{system_of_term}
-use Rattle.graphs.specs.Graph.{completed_system}
 use Rattle.shared_systems.specs.SharedMemory.{shared_peak_of}
-use Rattle.shared_systems.specs.SharedTraversal.{IsSharedTraversal}
-use Rattle.carried_graphs.specs.Carried.{carried}
-use Rattle.sp_reduce.proofs.NamedTerms.{is-renamed}
-use Rattle.shared_reduce.proofs.ToldOrders.{all_told}
+use Rattle.joined_systems.specs.Joined.{without_joins}
 use Rattle.shared_reduce.proofs.laws.told_term_law.Goals as goal
 
 pub returns-clause-traversal : goal.returns-clause-traversal
 returns-clause-traversal c = λ system names t order is term traversal.
-    let named = (c.shared_term_law.ensures.traversal system term.lasts names t order is term.are_last term.has).0 traversal in
-    subst (IsSharedTraversal system) (sym (all_told (length system.tasks) names order named.tasks)) named
+    let within = c.joined_law.ensures.within system term.joined is term.is_joined in
+    let named = (c.shared_term_law.ensures.traversal term.joined term.term.lasts names t order within term.term.are_last term.term.has).0
+    traversal in
+    c.joined_law.ensures.traversal system term.joined (map (name_in names) order) is term.is_joined named
 
 pub returns-clause-peak : goal.returns-clause-peak
 returns-clause-peak c = λ system names t order is term traversal.
-    let named = (c.shared_term_law.ensures.traversal system term.lasts names t order is term.are_last term.has).0 traversal in
-    let same = c.shared_term_law.ensures.peak system term.lasts names t order is term.are_last term.has traversal in
-    let told = ap (shared_peak_of system) (all_told (length system.tasks) names order named.tasks) in
-    omega (arith, same, told)
+    let within = c.joined_law.ensures.within system term.joined is term.is_joined in
+    let named = (c.shared_term_law.ensures.traversal term.joined term.term.lasts names t order within term.term.are_last term.term.has).0
+    traversal in
+    let same = c.shared_term_law.ensures.peak term.joined term.term.lasts names t order within term.term.are_last term.term.has traversal in
+    let below = c.joined_law.ensures.peak system term.joined (map (name_in names) order) is term.is_joined named in
+    omega (arith, same, below)
 
 pub returns-clause-back : goal.returns-clause-back
 returns-clause-back c = λ system names t order is term traversal.
-    let graph = carried term.lasts system in
-    let own = (c.carried_law.ensures.traversal system term.lasts order is term.are_last).0 traversal in
-    let there = c.renaming_law.ensures.each names (system_of_term t) (completed_system graph) order (is-renamed graph names t term.has)
-    ((c.completion_law.ensures.traversal graph order).0 own) in
-    let named = (c.shared_term_law.ensures.traversal system term.lasts names t there.0 is term.are_last term.has).0 there.1 in
-    let same = c.shared_term_law.ensures.peak system term.lasts names t there.0 is term.are_last term.has there.1 in (
+    let within = c.joined_law.ensures.within system term.joined is term.is_joined in
+    let woven = c.joined_law.ensures.back system term.joined order is term.is_joined traversal in
+    let there = c.carried_term_law.ensures term.joined names t woven.0 within term.term woven.1.0 in (
       there.0,
       there.1,
-      all_told (length system.tasks) names there.0 named.tasks ∙ sym there.2,
-      sym same ∙ ap (shared_peak_of system) (sym there.2),
+      ap (without_joins (length system.tasks)) there.2 ∙ woven.1.1,
+      there.3 ∙ woven.1.2,
     )
 
 pub returns-clause-least : goal.returns-clause-least
 returns-clause-least c = λ system names t peak is term.
-    let same = c.shared_term_law.ensures.least system term.lasts names t peak is term.are_last term.has in
-    (λ least. same.0 least, λ least. same.1 least)
+    let within = c.joined_law.ensures.within system term.joined is term.is_joined in
+    let joined = c.joined_law.ensures.least system term.joined peak is term.is_joined in
+    let same = c.shared_term_law.ensures.least term.joined term.term.lasts names t peak within term.term.are_last term.term.has in
+    (λ least. same.0 (joined.0 least), λ least. joined.1 (same.1 least))
