@@ -321,8 +321,6 @@ class Facts:
         ranges = self.module("fuzz.formats").RANGES
         yield "tools/fuzz/formats.py", {name: f"{least} to {most}" for name, (least, most) in ranges.items()}, {name: it for name, it in values.items() if " to " in it}
         yield place, {number: number for number in table.STATUSES}, {number: number for number in self.said.values()}
-        of_graphs = {name: "graph" for name, options in wanted.items() if "graph" in options.split() and name != "reduce"}
-        yield "tools/explaining/formats.py", {name: "graph" for name in self.module("explaining.formats").BOTH_GRAPHS}, of_graphs
         yield "tools/fuzz/formats.py, options", dict(self.options_of_fuzz()), wanted
 
     def options_of_fuzz(self) -> Iterator[Tuple[str, str]]:

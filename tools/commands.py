@@ -79,7 +79,7 @@ STATUSES: Dict[int, str] = {
     6: "a file could not be read; nothing is printed",
     7: "the report could not be written whole",
     8: "memory ran out; nothing is printed",
-    9: "the task graph is not series-parallel: `refused graph rest K`, and K arcs",
+    9: "the task graph is not series-parallel: `refused graph rest K`, and K arcs; or of version 2 `refused graph uses K`, `item I` or `arcs`",
     10: "a step needs more than the bound: `refused working-set STEP NEED BOUND`",
 }
 NO_TRAVERSAL = "the order is no traversal"
@@ -201,8 +201,8 @@ COMMANDS: Tuple[Command, ...] = (
         options=(GRAPH,),
         one_of=("graph",),
         only_with=(),
-        prints="a workflow file, with a line `# K NAME` for each task: task K is task NAME of the graph; or the arcs that are in the way",
-        statuses={9: "the graph is not series-parallel"},
+        prints="a workflow file, with a line `# K NAME` for each task: task K is task NAME of the graph; or the arcs, or the item, in the way",
+        statuses={9: "the graph is not series-parallel, or an item has several readers and none after all the others"},
         example=("reduce --graph examples/four.graph | tail -n 4", "# 1 3\n# 2 2\n# 3 4\n# 4 1"),
     ),
     Command(

@@ -445,8 +445,8 @@ usage: memplan reduce --graph FILE
                 another
 
 Prints a workflow file, with a line # K NAME for each task: task K is task NAME
-of the graph; or the arcs that are in the way. Status 9: the graph is not
-series-parallel.
+of the graph; or the arcs, or the item, in the way. Status 9: the graph is not
+series-parallel, or an item has several readers and none after all the others.
 
 $ memplan reduce --graph examples/four.graph | tail -n 4
 # 1 3
@@ -543,7 +543,8 @@ Statuses:
   6   a file could not be read; nothing is printed
   7   the report could not be written whole
   8   memory ran out; nothing is printed
-  9   the task graph is not series-parallel: refused graph rest K, and K arcs
+  9   the task graph is not series-parallel: refused graph rest K, and K arcs;
+      or of version 2 refused graph uses K, item I or arcs
   10  a step needs more than the bound: refused working-set STEP NEED BOUND
 
 docs/COMMANDS.md has all of this, docs/FORMATS.md the files and the refusals.

@@ -75,7 +75,7 @@ def teller(lines: list[Line]) -> Callable[[Names, list[Line]], Iterator[Line]]:
         return of_a_run
     if second[:1] == ["gaps"]:
         return of_gaps
-    if first[:3] == ["refused", "graph", "rest"]:
+    if first[:2] == ["refused", "graph"] and len(first) == 4 and first[2] in ("rest", "uses"):
         return of_a_rest
     if first and all(len(line) == 1 and line[0].isdigit() for line in lines):
         return of_a_list

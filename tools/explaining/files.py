@@ -1,7 +1,7 @@
 """The files that refusals speak of: their lines, what they should hold, and what else they may be."""
 
 import re
-from itertools import islice
+from itertools import dropwhile, islice
 from typing import Dict, Iterator, List, NamedTuple, Tuple
 
 WIDTH = 100  # of a line that is shown
@@ -84,6 +84,11 @@ class File:
         """Of a graph file for each reader of an item the task that makes it, and the reader; 0 stands for none."""
         ends = [row for _, row in self.nodes()[self.stated("tasks") :]]
         return [(row[0], row[1]) for row in ends] if self.section() == "arcs" else [(row[1], reader) for row in ends for reader in row[2:]]
+
+    def line_of_item(self, item: int) -> int:
+        """The number of the line of an item of a graph file of version 2; 0 without it."""
+        rows = dropwhile(lambda row: row[1][0] != "items", self.rows())
+        return next((number for number, _ in islice(rows, item, None)), 0)
 
     def place(self, number: int) -> str:
         count = sum(1 for _ in self.lines())

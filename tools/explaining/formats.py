@@ -5,8 +5,6 @@ from typing import Callable, Dict, List
 from explaining.files import Case, File, foreign, form_of, is_number, many, wrong_token
 
 SECOND_LINES = {"tree": "nodes N", "workflow": "tasks N"}
-# The commands that take graph files of version 1 and of version 2.
-BOTH_GRAPHS = ("replay", "simulate", "spill", "upgrade")
 
 
 def numbers(case: Case, names: str, tokens: List[str], is_timed: bool = False) -> str:
@@ -234,17 +232,11 @@ def permutation_cause(case: Case) -> str:
 def header(case: Case) -> str:
     kind = case.file.kind
     if len(case.tokens) == 2 and case.tokens[0] == kind:
-        return f"There are the versions 1 and 2 of this format{of_graphs() if kind == 'graph' else ''}."
+        return "There are the versions 1 and 2 of this format."
     first = next(case.file.rows(), (case.line, []))[0]
     if case.line != first:
         return f"This line is not `{SECOND_LINES[kind]}`."
     return f"The first line, `{kind} 1`, is not there."
-
-
-def of_graphs() -> str:
-    """Which commands take which version of graph files."""
-    both = f"{', '.join(f'`{name}`' for name in BOTH_GRAPHS[:-1])} and `{BOTH_GRAPHS[-1]}`"
-    return f"; `reduce` takes version 1 alone, with an arc for each reader, and {both} take both"
 
 
 # ---- what each refusal of a file's form means: a sentence, or what finds one

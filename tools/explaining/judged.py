@@ -56,10 +56,19 @@ def of_bound(words: List[str]) -> List[str]:
     return [means, f"Whatever goes to disk, --bound has to be {words[2]} or more."]
 
 
-def of_graph(count: int) -> List[str]:
-    means = f"The graph is not series-parallel: {many(count, 'arc')} are left, by which no tasks can be put together any more."
-    where = "They stand below this line, as `FROM TO`: see what runs across there."
-    return [means, f"{where} `plan` takes series-parallel tasks alone; `replay`, `simulate` and `spill` take any graph, in an order of yours."]
+def of_graph(words: List[str], files: Dict[str, File]) -> List[str]:
+    """Why a task graph has no term."""
+    others = "`plan` takes series-parallel tasks alone; `replay`, `simulate` and `spill` take any graph, in an order of yours."
+    if words[0] == "item":
+        number = files["graph"].line_of_item(int(words[1])) if "graph" in files else 0
+        where = [files["graph"].place(number)] if number else []
+        means = f"Several tasks read item {words[1]}, and none of them comes after all the others, so none is sure to be the last that holds it."
+        return [*where, means, f"A task that reads it after them, as one of theirs or one of its own, would be. {others}"]
+    if words[0] == "arcs":
+        return [f"With the arcs that are added the graph has more than {LIMITS['arcs']:,} of them: one for each reader of an item.", others]
+    whose = " of uses, which has an arc for each reader of an item," if words[0] == "uses" else ""
+    means = f"The graph{whose} is not series-parallel: {many(int(words[1]), 'arc')} are left, by which no tasks can be put together any more."
+    return [means, f"They stand below this line, as `FROM TO`: see what runs across there. {others}"]
 
 
 def tasks_left(files: Dict[str, File], task: int, before: List[int]) -> List[int]:

@@ -215,7 +215,7 @@ COMMANDS = {
     "spill": Command(INPUTS_AND_GRAPHS, spill_options),
     "fronts": Command(("matrix",), fronts_options),
     "segments": Command(ALL_INPUTS, no_options),
-    "reduce": Command(("graph",), no_options),
+    "reduce": Command(("graph", "shared graph"), no_options),
     "tree": Command(("matrix",), no_options),
     "post": Command(("tree", "tree", "matrix"), no_options),
     "demo": Command((), demo_options),

@@ -35,13 +35,12 @@ from models import (
     columns_of,
     first_position,
     fronts_report,
-    graph_of,
     numbers,
     objection,
     parts_of,
     plan_of,
     postorder_of,
-    rest_of,
+    reduction_of,
     rows,
     shared_system_of_graph,
     system_of_term,
@@ -163,7 +162,7 @@ class Judge:
         readers = {
             "tree": formats.read_tree,
             "workflow": formats.read_workflow,
-            "graph": formats.read_graph if self.words[0] == "reduce" else formats.read_graph_of_either_version,
+            "graph": formats.read_graph_of_either_version,
             "order": formats.read_order,
             "plan": formats.read_plan,
         }
@@ -173,7 +172,7 @@ class Judge:
 
     def expect(self, text: str) -> Iterator[str]:
         """The text of the report, and the status that it has."""
-        begins = {"no ": NO, "refused bound": BOUND, "refused working-set": WORKING_SET, "refused graph rest": NOT_SERIES_PARALLEL}
+        begins = {"no ": NO, "refused bound": BOUND, "refused working-set": WORKING_SET, "refused graph": NOT_SERIES_PARALLEL}
         status = next((status for start, status in begins.items() if text.startswith(start)), DONE)
         if (self.ending.status, self.text) != (status, text):
             yield f"expected {status} {text!r}"
@@ -232,9 +231,9 @@ class Judge:
                     yield f"expected the steps {system.staircase(direction == 'R')} of {line!r}"
 
     def reduce_ends(self) -> Iterator[str]:
-        graph, text = graph_of(self.file("graph")), self.ending.report
-        if (rest := rest_of(graph)) != [(0, 0)]:
-            yield from self.expect("".join([f"refused graph rest {len(rest)}\n", *(f"{start} {end}\n" for start, end in rest), "end\n"]))
+        (graph, refusal), text = reduction_of(self.file("graph")), self.ending.report
+        if refusal:
+            yield from self.expect(refusal)
             return
         places, names = zip(*re.findall(r"^# (\d+) (\d+)$", self.text, re.M)) if graph.tasks else ((), ())
         if self.ending.status != DONE or formats.refusal_of(partial(formats.read_workflow, text)) != (len(graph.tasks), None):

@@ -371,11 +371,15 @@ def graph_of(text: bytes) -> Graph:
     lines = [[int(token) for token in tokens if token.isdigit()] for tokens in rows(text)]
     count = lines[1][0]
     tasks = [tuple(line) for line in lines[2 : 2 + count]]
-    arcs = [tuple(line) for line in lines[3 + count : -1]]
-    starts, ends = {arc[0] for arc in arcs}, {arc[1] for arc in arcs}
-    arcs += [(0, number, 0) for number in range(1, count + 1) if number not in ends]
-    arcs += [(number, 0, 0) for number in range(1, count + 1) if number not in starts]
-    return Graph(tasks, arcs)
+    return completed(Graph(tasks, [tuple(line) for line in lines[3 + count : -1]]))
+
+
+def completed(graph: Graph) -> Graph:
+    """With an arc of size 0 into each task that has none, and out of each."""
+    numbers_of_tasks = range(1, len(graph.tasks) + 1)
+    starts, ends = {arc[0] for arc in graph.arcs}, {arc[1] for arc in graph.arcs}
+    into = [(0, number, 0) for number in numbers_of_tasks if number not in ends]
+    return Graph(graph.tasks, [*graph.arcs, *into, *((number, 0, 0) for number in numbers_of_tasks if number not in starts)])
 
 
 def rest_of(graph: Graph) -> list[tuple[int, int]]:
@@ -497,6 +501,47 @@ def collected(system: SharedSystem) -> Graph:
             ends = [len(tasks)]
         arcs.append((start, ends[0] if ends else 0, size))
     return Graph(tasks, arcs)
+
+
+def is_after(system: SharedSystem, later: int, earlier: int) -> bool:
+    """Whether a task comes after another in every traversal: it reads, over others or not, what that makes."""
+    return any(supplier == earlier or is_after(system, supplier, earlier) for supplier in system.suppliers[later])
+
+
+def last_reader(system: SharedSystem, item: SharedItem) -> Optional[int]:
+    """The reader of an item that comes after all its other readers."""
+    return next((last for last in item.readers if all(is_after(system, last, other) for other in item.readers if other != last)), None)
+
+
+def arcs_of_item(item: SharedItem, last: Optional[int]) -> list[tuple[int, int, int]]:
+    """An arc for each reader, to the last one with the item; or one to none where nobody reads it."""
+    start = 0 if item.maker is None else item.maker + 1
+    return [(start, reader + 1, item.size if reader == last else 0) for reader in item.readers] or [(start, 0, item.size)]
+
+
+def rest_text(word: str, graph: Graph) -> Optional[str]:
+    """What `reduce` says of a completed graph that has no term."""
+    if (rest := rest_of(graph)) == [(0, 0)]:
+        return None
+    return "".join([f"refused graph {word} {len(rest)}\n", *(f"{start} {end}\n" for start, end in rest), "end\n"])
+
+
+def reduction_of(text: bytes) -> tuple[Graph, Optional[str]]:
+    """Of a graph of either version the completed graph of which `reduce` prints a term, or what it says where there is none."""
+    if rows(text)[0][1] == "1":
+        graph = graph_of(text)
+        return graph, rest_text("rest", graph)
+    system = shared_system_of_graph(text)
+    bare = [(0, 0, 1)] * system.count
+    uses = completed(Graph(bare, [(start, end, 0) for item in system.items for start, end, _ in arcs_of_item(item, None) if end]))
+    if system.shared_items() and (refusal := rest_text("uses", uses)):
+        return uses, refusal
+    lasts = [last_reader(system, item) for item in system.items]
+    for number, (item, last) in enumerate(zip(system.items, lasts), 1):
+        if item.readers and last is None:
+            return uses, f"refused graph item {number}\n"
+    graph = completed(Graph(system.tasks, [arc for item, last in zip(system.items, lasts) for arc in arcs_of_item(item, last)]))
+    return graph, rest_text("rest", graph)
 
 
 def system_of_graph(graph: Graph) -> System:

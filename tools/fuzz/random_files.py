@@ -66,13 +66,7 @@ def random_graph(draw: random.Random) -> bytes:
     """Mostly of a series-parallel term, with its tasks and arcs in any order; now and then with an arc more."""
     count = draw.choice([0, 1, 2, 3, 4, 5, 6, 7, 8, 9, draw.randrange(10, 40)])
     names = draw.sample(range(1, count + 1), count)
-    arcs = [(0, 0)] if count == 0 or draw.random() < 0.5 else [(0, names[0]), (names[0], 0)]
-    for name in names[len(arcs) - 1 :]:
-        place = draw.randrange(len(arcs))
-        start, end = arcs[place]
-        arcs[place : place + 1] = [(start, name), (name, end)]
-        if draw.random() < 0.4:
-            arcs.append(draw.choice(arcs))
+    arcs = series_parallel_arcs(draw, names)
     if count > 1 and draw.random() < 0.3:
         arcs.append(tuple(sorted(draw.sample(range(1, count + 1), 2))))
     # the arcs of none that are added need not be there
@@ -80,6 +74,18 @@ def random_graph(draw: random.Random) -> bytes:
     taken, made = ([sum(arc[2] for arc in kept if arc[side] == name) for name in range(count + 1)] for side in (1, 0))
     tasks = [random_graph_task(draw, small(draw), taken[name], made[name]) for name in range(1, count + 1)]
     return graph_text(Graph(tasks, kept))
+
+
+def series_parallel_arcs(draw: random.Random, names: list[int]) -> list[tuple[int, int]]:
+    """Arcs between these tasks, of a series-parallel graph; 0 stands for none."""
+    arcs = [(0, 0)] if not names or draw.random() < 0.5 else [(0, names[0]), (names[0], 0)]
+    for name in names[len(arcs) - 1 :]:
+        place = draw.randrange(len(arcs))
+        start, end = arcs[place]
+        arcs[place : place + 1] = [(start, name), (name, end)]
+        if draw.random() < 0.4:
+            arcs.append(draw.choice(arcs))
+    return arcs
 
 
 def random_graph_task(draw: random.Random, extra: int, taken: int, made: int) -> tuple[int, int, int]:
@@ -110,6 +116,11 @@ def random_shared_graph(draw: random.Random) -> bytes:
         place = draw.randrange(count + 1)
         readers = draw.sample(names[place + 1 :], draw.randint(0, count - place))
         items.append((draw.randint(0, most), names[place], *sorted(readers)))
+    return text_of_items(draw, count, most, items)
+
+
+def text_of_items(draw: random.Random, count: int, most: int, items: list[tuple[int, ...]]) -> bytes:
+    """These items, and so many tasks whose extras are random; each item is its size, the task that makes it, and its readers."""
     taken, made = [0] * (count + 1), [0] * (count + 1)
     for size, maker, *readers in items:
         made[maker] += size
@@ -117,6 +128,32 @@ def random_shared_graph(draw: random.Random) -> bytes:
             taken[readers[0]] += size
     tasks = [random_graph_task(draw, draw.randint(0, most), taken[name], made[name]) for name in range(1, count + 1)]
     return lines_of_graph(2, tasks, "items", items)
+
+
+def random_forked_graph(draw: random.Random) -> bytes:
+    """Of version 2, mostly of a series-parallel term: an item goes along an arc, and is read on the way now and then, before its end."""
+    count = draw.choice([1, 2, 3, 4, 5, 6, 7, 7, 7])
+    names = draw.sample(range(1, count + 1), count)
+    arcs, most = series_parallel_arcs(draw, names), draw.choice([2, 9, 99])
+    before: dict[int, set[int]] = {}
+    for name in draw.sample(names, count):
+        find_earlier(name, arcs, before)
+    items = []
+    for start, end in draw.sample(arcs, len(arcs)):
+        between = [name for name in names if end and name in before[end] and (not start or start in before[name])]
+        readers = {*([end] if end else []), *(draw.sample(between, draw.randint(0, len(between))) if draw.random() < 0.4 else [])}
+        if start or readers and draw.random() < 0.5:
+            items.append((draw.randint(0, most), start, *sorted(readers)))
+    return text_of_items(draw, count, most, items)
+
+
+def find_earlier(name: int, arcs: list[tuple[int, int]], before: dict[int, set[int]]) -> None:
+    """Puts the tasks that arcs lead from to this one, over others or not."""
+    if name not in before:
+        nearest = {start for start, end in arcs if end == name and start}
+        for start in nearest:
+            find_earlier(start, arcs, before)
+        before[name] = nearest.union(*(before[start] for start in nearest))
 
 
 def random_matrix(draw: random.Random) -> bytes:

@@ -1,5 +1,6 @@
 #!/usr/bin/env python3
-"""Tries all orders of random small task graphs of version 2, in which data have several readers, and runs `replay`, `simulate` and `spill` on them.
+"""Tries all orders of random small task graphs of version 2, in which data have several readers, and runs `replay`, `simulate`, `spill` and `reduce`
+on them.
 
 usage: shared.py [PROGRAM] [--graphs N] [--first N] [--seed S] [--jobs J] [--keep FOLDER]      (PROGRAM is crates/memplan/out/memplan)
 
@@ -13,9 +14,13 @@ it asks:
 - a run of the model within the peak of an order comes to its end within its bound, on any number of workers and by any priority;
 - where all amounts of the gaps can be tried, the least volume that is spilled is that of the model, and what `spill` chooses has it and fits;
 - where no item has several readers, runs and least volumes are those of the system of one reader each;
+- the graph of version 1 in which the last reader of each item alone carries it has the same orders with the same peaks; and where `reduce` refuses
+  an item, each reader of it stands before another one in some order;
 - `replay` prints the model's peak of a random traversal, of the graph and, with those tasks put in, of the graph of version 1;
 - `simulate` prints the model's run, event by event, and refuses a bound below the peak;
 - `spill` prints the model's least volume, and amounts with which each step fits, or tells the first step that needs too much for itself;
+- `reduce` prints a workflow, the order that `plan` finds for it is one of the graph by the names of its tasks, and its peak is the least of all
+  orders; or it says what the model says;
 - they tell the model's first fault of a random list that is no traversal;
 - a file that is changed in a few bytes, tokens or lines is refused as the plain reader refuses it, or has what it says.
 
@@ -26,6 +31,7 @@ import argparse
 import json
 import multiprocessing
 import random
+import re
 import subprocess
 import sys
 import tempfile
@@ -34,10 +40,10 @@ from pathlib import Path
 from typing import NamedTuple, Optional
 
 import formats
-from bench import BOUND, DONE, FORMAT, LIMIT, NO, SECONDS, WORKING_SET, Bench, Ending
+from bench import BOUND, DONE, FORMAT, LIMIT, NO, NOT_SERIES_PARALLEL, SECONDS, WORKING_SET, Bench, Ending
 from judge import ending_of_spill
-from models import SharedSystem, Simulation, Spilling, collected, shared_system_of_graph, system_of_graph
-from random_files import changed, graph_text, listed, random_shared_graph, random_traversal
+from models import SharedSystem, Simulation, Spilling, collected, last_reader, plan_of, reduction_of, shared_system_of_graph, system_of_graph
+from random_files import changed, graph_text, listed, random_forked_graph, random_shared_graph, random_traversal
 
 GRAPH_AND_ORDER = ["--graph", "g", "--order", "o"]
 
@@ -46,9 +52,11 @@ MOST_TRIALS = 3000
 
 
 class Result(NamedTuple):
-    """A graph that was tried: how many items have several readers, how many orders there are, the runs that it took, and what was wrong."""
+    """A graph that was tried: how many items have several readers, whether it is reduced, how many orders there are, the runs that it took, and
+    what was wrong."""
 
     shared: int
+    is_reduced: bool
     orders: int
     runs: int
     wrongs: list[str]
@@ -127,10 +135,11 @@ class Trial:
 
     def __init__(self, draw: random.Random, bench: Optional[Bench]) -> None:
         self.draw, self.bench = draw, bench
-        self.text = random_shared_graph(draw)
+        self.text = draw.choice([random_shared_graph, random_forked_graph])(draw)
         self.system = shared_system_of_graph(self.text)
         self.peaks = {order: self.system.peak(order) for order in self.system.traversals()}
         self.graph = collected(self.system)
+        self.reduced, self.refusal = reduction_of(self.text)
 
         self.order = random_traversal(draw, self.system)
         self.asked = random_asked(draw, self.system, self.order)
@@ -139,8 +148,10 @@ class Trial:
         yield from self.wrongs_of_models()
         yield from self.wrongs_of_runs()
         yield from self.wrongs_of_spills()
+        yield from self.wrongs_of_readers()
         if self.bench:
             yield from self.wrongs_of_program()
+            yield from self.wrongs_of_reduce()
 
     def wrongs_of_models(self) -> Iterator[str]:
         best = min(self.peaks, key=self.peaks.__getitem__)
@@ -180,6 +191,35 @@ class Trial:
             yield f"the least volume of all amounts is {spilling.least_by_trial()}, and {volume} by the model"
         if not self.system.shared_items() and Spilling(system_of_graph(self.graph), self.order, self.asked.memory).least_volume() != volume:
             yield "the system of one reader each has another least volume"
+
+    def wrongs_of_readers(self) -> Iterator[str]:
+        """Which readers are the last in all orders, and what becomes of the graph where each item has one."""
+        for number, item in enumerate(self.system.items, 1):
+            last = {max(item.readers, key=lambda reader: order.index(reader + 1)) for order in self.peaks} if item.readers else set()
+            if last_reader(self.system, item) != (last.pop() if len(last) == 1 else None):
+                yield f"item {number} has another last reader"
+        if not self.refusal:
+            other = system_of_graph(self.reduced)
+            if {order: other.peak(order) for order in other.traversals()} != self.peaks:
+                yield "the graph in which the last readers carry the items has other orders or peaks"
+
+    def wrongs_of_reduce(self) -> Iterator[str]:
+        self.bench.write("g", self.text)
+        found = self.bench.run(["reduce", "--graph", "g"])
+        if self.refusal:
+            if found != Ending(NOT_SERIES_PARALLEL, self.refusal.encode(), b""):
+                yield f"reduce: {found} in place of {self.refusal!r}"
+            return
+        names = [int(name) for _, name in re.findall(rb"^# (\d+) (\d+)$", found.report, re.M)]
+        self.bench.write("w", found.report)
+        made = self.bench.run(["plan", "--workflow", "w"])
+        if (found.status, made.status) != (DONE, DONE):
+            yield f"reduce: {found}, and plan of it: {made}"
+            return
+        plan, least = plan_of(made.report), min(self.peaks.values())
+        order = tuple(names[number - 1] for number in plan.order)
+        if (self.peaks.get(order), plan.peak) != (least, least):
+            yield f"the plan of the reduced graph has the order {order} and the peak {plan.peak}, and the least is {least}"
 
     def wrongs_of_program(self) -> Iterator[str]:
         order, whole = self.order, self.system.with_collectors(self.order)
@@ -233,7 +273,7 @@ class Worker:
         if wrongs:
             self.keep_graph(number, trial, wrongs)
         runs = self.bench.runs - runs_before if self.bench else 0
-        return Result(len(trial.system.shared_items()), len(trial.peaks), runs, wrongs)
+        return Result(len(trial.system.shared_items()), not trial.refusal, len(trial.peaks), runs, wrongs)
 
     def judged(self, trial: Trial) -> list[str]:
         wrongs = []
@@ -275,9 +315,11 @@ def main() -> int:
                 print(f"graph {given.first + len(results)}: {wrong}", flush=True)
             results.append(result)
     shared = sum(1 for result in results if result.shared)
+    reduced = sum(1 for result in results if result.is_reduced)
     wrong = sum(1 for result in results if result.wrongs)
     orders, runs = (sum(counts) for counts in zip(*((result.orders, result.runs) for result in results)))
-    print(f"{len(results)} graphs, {shared} with an item of several readers, {orders} orders, {runs} runs of the program, {wrong} graphs wrong")
+    several = f"{shared} with an item of several readers, {reduced} with a term"
+    print(f"{len(results)} graphs, {several}, {orders} orders, {runs} runs of the program, {wrong} graphs wrong")
     return 1 if wrong else 0
 
 

@@ -46,6 +46,8 @@ simulate --graph four.graph --order four.order --priority four.priority --bound 
 spill --graph shared.graph --order shared.order --bound 13
 reduce --graph four.graph
 reduce --graph bridge.graph
+reduce --graph fork.graph
+reduce --graph shared.graph
 fronts --matrix arrow.mtx --perm arrow.perm --bound 4 --workers 2
 fronts --matrix grid.mtx --ordering mindeg --bound 9 --workers 1
 segments --tree five.tree

@@ -112,7 +112,6 @@ COMMANDS = [
     ("tools/commands.py", r'"triangle\|square"', '"square|triangle"', "shape is square|triangle and not triangle|square"),
     ("tools/commands.py", r"0, 2\*\*40\)", "0, 2**41)", "amalgamate is 0 to 2199023255552 and not 0 to 1099511627776"),
     ("tools/commands.py", r"    10: .*\n", "", "10 is missing and not 10"),
-    ("tools/explaining/formats.py", r'\("replay", "simulate", ', '("replay", ', "tools/explaining/formats.py: simulate is missing and not graph"),
     (FUZZ, r'"matrix", "graph"\}, \[\{"order", "plan"\}, \{"bound"\}\]', '"matrix"}, [{"order", "plan"}, {"bound"}]', "spill is amalgamate bound inplace"),
     (FUZZ, r'"seed": \(0, ', '"seed": (1, ', "seed is 1 to 18446744073709551615 and not 0 to 18446744073709551615"),
 ]

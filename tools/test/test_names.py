@@ -36,6 +36,8 @@ ROWS = {
     "gaps": ("volume 5\ngaps 2\n1 2 4\n3 0 1\nend\n", "volume 5\ngaps 2\n1 sort by key 4\n3 0 1\nend\n"),
     "items": ("volume 4\nitems 1\n2 4\nend\n", "volume 4\nitems 1\n2 4\nend\n"),
     "a rest": ("refused graph rest 2\n0 1\n1 3\nend\n", "refused graph rest 2\n0 fetch\nfetch count\nend\n"),
+    "uses": ("refused graph uses 2\n0 1\n1 3\nend\n", "refused graph uses 2\n0 fetch\nfetch count\nend\n"),
+    "an item": ("refused graph item 3\n", "refused graph item 3\n"),
     "an order": ("3\n1\n2\n", "count\nfetch\nsort by key\n"),
     "a peak": ("peak 3\n", "peak 3\n"),
     "a fault of an order": ("no order 1 too-early\n", "no order 1 too-early\n"),

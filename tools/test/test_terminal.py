@@ -308,7 +308,8 @@ BROKEN: List[Tuple[str, str, Text, str, List[str]]] = [
     ("a ring", "graph", put(FOUR, 11, "4 1 2"), "refused format graph cycle 3", ["ring waits for the next one: 1, 4, 2, 1"]),
     ("names", "graph", put(FOUR, 8, "load sort 5"), "refused format graph number 8", ["`load` is no number"]),
     ("a workflow", "graph", BRANCHES, "refused format graph header 1", ["is a workflow file, which is given by `--workflow`"]),
-    ("version 2", "graph", put(FOUR, 1, "graph 2"), "refused format graph header 1", ["`reduce` takes version 1 alone", "`replay`, `simulate`, `spill` and `upgrade` take both"]),
+    ("version 3", "graph", put(FOUR, 1, "graph 3"), "refused format graph header 1", ["versions 1 and 2"]),
+    ("arcs in version 2", "graph", put(FOUR, 1, "graph 2"), "refused format graph section 7", ["in version 2 `items M`"]),
     ("arcs 5 for 4", "graph", put(FOUR, 7, "arcs 5"), "refused format graph number 12", ["`end` comes after 4 arcs, and there is `arcs 5`"]),
 ]
 STATUS = {"refused format": 3, "refused limit": 4}
@@ -357,6 +358,15 @@ class Files(FilesTest):
         self.check(f"simulate {run} 11 --workers 2".split(), 5, "refused bound 11 15", "its peak is 15", "--bound 15 or more")
         self.check(f"spill {run} 9".split(), 10, "refused working-set 1 10 9", "place 1 of the order needs 10 by itself", "10 or more")
         self.check("reduce --graph bridge.graph".split(), 9, "refused graph rest 7", "not series-parallel: 7 arcs are left", "`simulate` and `spill` take any graph")
+
+    def test_graphs_of_version_2_without_a_term(self) -> None:
+        # tasks 2 and 3 read the second item side by side
+        self.write("my.graph", "graph 2\ntasks 3\n0 0 1\n0 0 1\n0 0 1\nitems 2\n4 1\n6 1 2 3\nend\n")
+        run = "reduce --graph my.graph".split()
+        self.check(run, 9, "refused graph item 2", "my.graph, line 8: 6 1 2 3", "none of them comes after all the others", "`simulate` and `spill` take any graph")
+        # task 4 waits for tasks 1 and 2, and task 3 for task 1 alone
+        self.write("my.graph", "graph 2\ntasks 4\n0 0 1\n0 0 1\n0 0 1\n0 0 1\nitems 2\n1 1 3 4\n1 2 4\nend\n")
+        self.check(run, 9, "refused graph uses 5", "an arc for each reader of an item", "5 arcs are left")
 
     def test_orders_and_items_of_graphs(self) -> None:
         # tasks 2, 3 and 4 read what task 1 makes, and task 5 what they make

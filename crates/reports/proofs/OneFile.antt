@@ -14,14 +14,13 @@ use Rattle.plans.specs.Plan.{PlanValue}
 use Rattle.plan_files.specs.PlanFile.{ReadsPlan, RefusesPlan}
 use Rattle.workflow_files.specs.Kinds.{word_of as workflow_word}
 use Rattle.workflow_files.specs.WorkflowFile.{ReadsWorkflow, RefusesWorkflow}
-use Rattle.graph_files.specs.GraphFile.{ReadsGraph, RefusesGraph}
 use Rattle.graph_files.specs.Kinds.{word_of as graph_word}
 use Rattle.shared_graph_files.specs.EitherVersion.{ReadsSharedGraph, RefusesSharedGraph}
 use Rattle.tree_files.specs.Kinds.{word_of as tree_word}
 use Rattle.tree_files.specs.TreeFile.{ReadsTree, RefusesTree}
 use Rattle.judging.specs.Files.{Answer, IsMatrixFile, HasOrdering, IsTooLarge, IsWithinBytes, IsRefusedAs}
 use Rattle.judging.specs.Files.{IsRefusedFile, HasValue, IsRefusedInRole, IsTaskSystemOf, IsPlanFile}
-use Rattle.requests.specs.Request.{Ordering, natural, min_degree, perm_named, TaskSource, FileRole, tree_file, workflow_file, graph_file}
+use Rattle.requests.specs.Request.{Ordering, natural, min_degree, perm_named, TaskSource, FileRole, tree_file, workflow_file}
 use Rattle.requests.specs.Request.{shared_graph_file}
 use Rattle.requests.specs.Request.{matrix_file, perm_file, order_file, plan_file, priority_file, plan_priority_file}
 use Rattle.reports.proofs.OneInput.{TaskSystems, same_task_texts}
@@ -57,7 +56,6 @@ module _ {K V : Type 0} (file : List ℕ) (word : K → List ℕ) (reads : List 
 pub record Formats : Type 0 where
   pub trees : IsFormat ReadsTree RefusesTree
   pub workflows : IsFormat ReadsWorkflow RefusesWorkflow
-  pub graphs : IsFormat ReadsGraph RefusesGraph
   pub shared_graphs : IsFormat ReadsSharedGraph RefusesSharedGraph
   pub matrices : IsFormat ReadsPattern RefusesPattern
   pub perms : (n : ℕ) → IsFormat (ReadsPerm n) (RefusesPerm n)
@@ -108,8 +106,6 @@ module _ (f : Formats) where
       not_refused (codes "tree") tree_word ReadsTree RefusesTree f.trees text answer nodes is refused
   not_both workflow_file earlier text answer (positions, is) refused =
       not_refused (codes "workflow") workflow_word ReadsWorkflow RefusesWorkflow f.workflows text answer positions is refused
-  not_both graph_file earlier text answer (graph, is) refused =
-      not_refused (codes "graph") graph_word ReadsGraph RefusesGraph f.graphs text answer graph is refused
   not_both shared_graph_file earlier text answer (system, is) refused =
       not_refused (codes "graph") graph_word ReadsSharedGraph RefusesSharedGraph f.shared_graphs text answer system is refused
   not_both (matrix_file o) earlier text answer (rows, is, fits) (inl refused) =
@@ -143,8 +139,6 @@ module _ (f : Formats) where
       refused_once (codes "tree") tree_word ReadsTree RefusesTree f.trees text one two is other
   one_refusal workflow_file earlier text one two is other =
       refused_once (codes "workflow") workflow_word ReadsWorkflow RefusesWorkflow f.workflows text one two is other
-  one_refusal graph_file earlier text one two is other =
-      refused_once (codes "graph") graph_word ReadsGraph RefusesGraph f.graphs text one two is other
   one_refusal shared_graph_file earlier text one two is other =
       refused_once (codes "graph") graph_word ReadsSharedGraph RefusesSharedGraph f.shared_graphs text one two is other
   one_refusal (matrix_file o) earlier text one two (inl is) (inl other) =

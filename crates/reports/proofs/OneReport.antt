@@ -20,6 +20,8 @@ use Rattle.postorder_best.specs.BestPostorder.{IsBestPostorder}
 use Rattle.sp_terms.specs.declared.position.Position.{Position}
 use Rattle.shared_systems.specs.Shared.{SharedTaskSystem}
 use Rattle.shared_systems.specs.SharedTraversal.{IsSharedTraversal, first_shared_fault}
+use Rattle.shared_graph_files.specs.EitherVersion.{is_second, system_of_either}
+use Rattle.shared_graph_files.proofs.EitherLemmas.{stated_is_read}
 use Rattle.sp_cuts.specs.StairLaws.{OneStairs}
 use Rattle.trees.specs.declared.node.Node.{Node}
 use Rattle.trees.specs.Tree.{IsTree, system_of_nodes}
@@ -291,7 +293,9 @@ module _ (r : Reports) where
       (text ∷ []) s split is_system (source_accepted source mine text order is_order, tt)
   report_accepted (segments input) texts a (ps, numbered, is, answer) = numbered_accepted input texts ps numbered is
   report_accepted (fronts m bound workers) texts a (rows, order, is, made) = ordered_accepted m texts rows order is
-  report_accepted (reduce name) texts a (text, graph, e, is, x) = subst (AreAccepted (files_of (reduce name)) []) (sym e) ((graph, is), tt)
+  report_accepted (reduce name) texts a (text, stated, e, is, x) =
+      subst (AreAccepted (files_of (reduce name)) []) (sym e)
+      ((system_of_either stated, (is.0, stated_is_read (is_second text) text stated is.1)), tt)
 
 -- ---- refusals in turn
 

@@ -9,7 +9,6 @@ use Rattle.matrix_files.specs.PermFile.{RefusesPerm}
 use Rattle.tree_files.specs.Kinds.{word_of as tree_word}
 use Rattle.tree_files.specs.TreeFile.{RefusesTree}
 use Rattle.workflow_files.specs.WorkflowFile.{RefusesWorkflow}
-use Rattle.graph_files.specs.GraphFile.{RefusesGraph}
 use Rattle.graph_files.specs.Kinds.{word_of as graph_word}
 use Rattle.shared_graph_files.specs.EitherVersion.{RefusesSharedGraph}
 use Rattle.matrix_files.specs.Kinds.{word_of as matrix_word}
@@ -26,7 +25,7 @@ use Rattle.matrix_files.specs.OrderKinds.{perm_word}
 use Rattle.matrix_files.specs.OrderKinds.{order_file_word}
 use Rattle.plan_files.specs.Kinds.{word_of as plan_word}
 use Rattle.requests.specs.Request.{Ordering, natural, min_degree, perm_named, Request, FileRole, NamedFile, tree_file}
-use Rattle.requests.specs.Request.{workflow_file, graph_file, shared_graph_file, matrix_file, perm_file, order_file, plan_file, priority_file}
+use Rattle.requests.specs.Request.{workflow_file, shared_graph_file, matrix_file, perm_file, order_file, plan_file, priority_file}
 use Rattle.requests.specs.Request.{plan_priority_file, files_of, simulate, demo, IsInRange}
 use Rattle.judging.specs.declared.status.Status.{Status}
 use Rattle.judging.specs.declared.status.Status.TheVariants as status
@@ -76,7 +75,6 @@ module _ (ended : Status) (reports : IsOfReports ended) where
       → IsRefusedInRole role earlier text answer → answer.status ≡ ended → ⊥
   refused tree_file earlier text answer r at = refused_file (codes "tree") tree_word (RefusesTree text) text answer r at
   refused workflow_file earlier text answer r at = refused_file (codes "workflow") workflow_word (RefusesWorkflow text) text answer r at
-  refused graph_file earlier text answer r at = refused_file (codes "graph") graph_word (RefusesGraph text) text answer r at
   refused shared_graph_file earlier text answer r at = refused_file (codes "graph") graph_word (RefusesSharedGraph text) text answer r at
   refused (matrix_file o) earlier text answer (inl r) at = refused_file (codes "matrix") matrix_word (RefusesPattern text) text answer r at
   refused (matrix_file o) earlier text answer (inr large) at = too_large o text answer large at

@@ -12,7 +12,7 @@ use Rattle.reports.specs.Upgrade.{IsUpgraded}
 use Rattle.reports.specs.SpilledGaps.{AreSpilled}
 use Rattle.reports.specs.Segments.{IsReached}
 use Rattle.reports.specs.Fronts.{IsFactored}
-use Rattle.reports.specs.Reduce.{IsReduced, HasIrreducibleRest}
+use Rattle.reports.specs.Reduce.{IsReduced, HasIrreducibleRest, IsReducedItems, HasItemsRefusal, are_second, by_version}
 use Rattle.judging.specs.declared.status.Status.{Status}
 use Rattle.judging.specs.declared.status.Status.TheVariants as status
 
@@ -52,12 +52,15 @@ Says (segments input) texts ended printed = ended ≡ status.Done → IsReached 
 -- graph, and of each further column the structure is the list from there on; the printed rounds are those of the activation machine,
 -- and along them the rows that are used are at most the bound
 Says (fronts matrix bound workers) texts ended printed = ended ≡ status.Done → IsFactored matrix bound workers texts printed
--- where a task graph was reduced, a workflow file was printed, with names: the traversals of its system are those of the graph under
--- these names, with the same peaks, and so are the least peaks;
--- where it is told that a task graph is not series-parallel, no term has the system of the completed graph, and the arcs of an
--- irreducible rest of it were printed
-Says (reduce name) texts ended printed =
-    (ended ≡ status.Done → IsReduced texts printed) × (ended ≡ status.NotSeriesParallel → HasIrreducibleRest texts printed)
+-- where a task graph of version 1 was reduced, a workflow file was printed, with names: the traversals of its system are those of the graph
+-- under these names, with the same peaks, and so are the least peaks;
+-- where it is told that such a graph is not series-parallel, no term has the system of the completed graph, and the arcs of an
+-- irreducible rest of it were printed;
+-- where one of version 2 was reduced, the traversals of the file's system tell those of the graph, all of them, with peaks that are no
+-- higher, and the least peaks are the same; where it is told that it has no term of this kind, it is told why
+Says (reduce name) texts ended printed = by_version (are_second texts)
+    ((ended ≡ status.Done → IsReduced texts printed) × (ended ≡ status.NotSeriesParallel → HasIrreducibleRest texts printed))
+    ((ended ≡ status.Done → IsReducedItems texts printed) × (ended ≡ status.NotSeriesParallel → HasItemsRefusal texts printed))
 
 -- what is asked of a request for that: a run has a worker, and an input that is to be made can be
 abbrev pub IsPossible : Request → Type 0

@@ -35,6 +35,7 @@ use plan_files::laws as plan_laws;
 use postorder_best::laws as postorder_laws;
 use rounds_run::laws as rounds_laws;
 use shared_graph_files::laws as shared_graph_laws;
+use shared_reduce::laws as shared_reduction_laws;
 use shared_systems::laws as shared_laws;
 use sp_cuts::laws as stair_laws;
 use sp_reduce::laws as reduction_laws;
@@ -95,7 +96,6 @@ fn one_file()
     matrix_file_laws::exactly_one_order();
     matrix_file_laws::exactly_one_perm();
     plan_laws::exactly_one();
-    graph_file_laws::exactly_one();
     shared_graph_laws::exactly_one();
 }
 
@@ -169,7 +169,7 @@ pub fn one_list_of_rows()
 
 /// A request has one answer over the texts of its files, and so the program prints what these decide; but `plan` may print any plan of
 /// least peak with a certificate, `spill` the amounts of any spill plan of least volume, and `reduce` any term of a graph, or any
-/// irreducible rest of one that has none.
+/// reason why it has none.
 pub fn one_answer()
     ensures { (request : Request) (texts : List (List ℕ)) (one two : Answer) → IsInRange request → IsDecided request →
         IsAnswer request texts one → IsAnswer request texts two → one ≡ two }
@@ -195,7 +195,7 @@ pub fn one_answer()
 /// An answer says what its request promises, command by command: a yes certifies, a plan is best, a trace is of a run that was simulated,
 /// what was upgraded is what the printed file says, what is spilled is a spill plan of least volume, printed levels are reached, and none
 /// below them, the rows of a front are a structure of the filled graph, the workflow of a task graph has the graph's traversals, and a
-/// graph whose rest is told has no term. It follows from being an answer.
+/// graph whose rest is told has no term, or one of version 2 none of that kind. It follows from being an answer.
 pub fn what_answers_say()
     ensures { (request : Request) (texts : List (List ℕ)) (answer : Answer) → IsPossible request →
         IsAnswer request texts answer → Says request texts answer.status answer.text }
@@ -212,6 +212,10 @@ pub fn what_answers_say()
     graph_file_laws::read_law();
     reduction_laws::named_term_law();
     reduction_laws::names_law();
+    shared_graph_laws::read_law();
+    shared_graph_laws::either_law();
+    shared_reduction_laws::told_term_law();
+    shared_reduction_laws::names_law();
     workflow_laws::named_workflow();
     one_demo();
     one_upgrade();

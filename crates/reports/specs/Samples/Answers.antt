@@ -36,7 +36,7 @@ use Rattle.reports.specs.Spill.{spill_answer, working_set_refused}
 use Rattle.reports.specs.SpilledGaps.{gap_answer}
 use Rattle.reports.specs.Segments.{no_steps, report_rows, segments_answer}
 use Rattle.judging.specs.Numbered.{node_positions}
-use Rattle.reports.specs.Reduce.{rest_answer, HasIrreducibleRest}
+use Rattle.reports.specs.Reduce.{rest_answer, arcs_answer, item_lines, too_many_lines, HasIrreducibleRest, IsReducedItems}
 use Rattle.reports.specs.Fronts.{fronts_answer}
 use Rattle.reports.specs.Demo.{demo_lines}
 use Rattle.reports.specs.Upgrade.{upgrade_answer, tree_value}
@@ -145,6 +145,18 @@ pub refused_lines :
 unfolding digits
 refused_lines = refl
 
+-- why graphs of version 2 have no term
+pub refused_items :
+    arcs_answer (codes "uses") ((0, 3) ∷ (3, 0) ∷ [])
+    ≡ record { status = status.NotSeriesParallel; text = codes "refused graph uses 2\n0 3\n3 0\nend\n" }
+unfolding digits
+refused_items = refl
+
+pub refused_items_in_a_line :
+    text_of_lines (item_lines 1) ∷ text_of_lines too_many_lines ∷ [] ≡ codes "refused graph item 1\n" ∷ codes "refused graph arcs\n" ∷ []
+unfolding digits
+refused_items_in_a_line = refl
+
 -- ---- answers: over one item of data of size 3, which has no task
 
 pub replayed : IsReplayAnswer (shared_of system) [] (peak_answer 3)
@@ -202,10 +214,23 @@ is_answered (text ∷ more ∷ texts) tells = absurd (tells.1)
 
 -- ---- promises: what a line says at the status of which it speaks
 
+-- the first lines of graphs
+abbrev pub version_1 : List ℕ
+version_1 = codes "graph 1\n"
+
+abbrev pub version_2 : List ℕ
+version_2 = codes "graph 2\n"
+
 pub a_yes_certifies : (input : Input) (plan : List ℕ) (workers : ℕ) (texts : List (List ℕ)) (printed : List ℕ)
     → Says (check input plan workers) texts status.Done printed → IsCertified input texts printed
 a_yes_certifies input plan workers texts printed says = says refl
 
-pub a_rest_has_no_term : (name : List ℕ) (texts : List (List ℕ)) (printed : List ℕ)
-    → Says (reduce name) texts status.NotSeriesParallel printed → HasIrreducibleRest texts printed
-a_rest_has_no_term name texts printed says = says.1 refl
+pub a_rest_has_no_term : (name : List ℕ) (printed : List ℕ)
+    → Says (reduce name) (version_1 ∷ []) status.NotSeriesParallel printed → HasIrreducibleRest (version_1 ∷ []) printed
+unfolding lines_of tokens_of rows_from after_word version_of
+a_rest_has_no_term name printed says = says.1 refl
+
+pub a_term_tells_all_orders : (name : List ℕ) (printed : List ℕ)
+    → Says (reduce name) (version_2 ∷ []) status.Done printed → IsReducedItems (version_2 ∷ []) printed
+unfolding lines_of tokens_of rows_from after_word version_of
+a_term_tells_all_orders name printed says = says.0 refl

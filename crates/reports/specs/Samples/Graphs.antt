@@ -2,7 +2,7 @@
 -- Task graphs: the completed graph, reductions, and the term of a graph; and some words on systems.
 use Rattle.std.specs.Prelude.{◌≡◌, ℕ, Some, None, Option, List, [], ◌∷◌, ◌++◌, map, count_by, ◌==◌, codes, refl}
 use Rattle.std.specs.Fmt.{digits}
-use Rattle.std.proofs.Common.{lit<, lit≤, subst, le_antisymm}
+use Rattle.std.proofs.Common.{lit<, lit≤, subst, le_antisymm, arith}
 use Rattle.std.proofs.lemmas.List.Elements.{All-nil, All-cons}
 use Rattle.mp_system.specs.declared.system.Task.{Task}
 use Rattle.mp_system.specs.declared.system.Item.{Item}
@@ -19,8 +19,11 @@ use Rattle.least_peak.specs.Problem.{system_of, IsTermOf}
 use Rattle.least_peak.specs.declared.problem.Origin.TheVariants as origins
 use Rattle.graphs.specs.declared.arc.Arc.{Arc}
 use Rattle.graphs.specs.Graph.{TaskGraph, completed_arcs, completed_system}
+use Rattle.shared_systems.specs.Shared.{SharedTaskSystem}
+use Rattle.carried_graphs.specs.Carried.{carried}
 use Rattle.workflow_files.specs.NamedText.{named_text}
 use Rattle.sp_reduce.specs.Reduced.{HasSystem, HasParts}
+use Rattle.shared_reduce.specs.SharedTerm.{IsSharedTerm, told}
 use Rattle.sp_reduce.specs.Reductions.{IsParallel, IsSeries, ReducesTo, in_order, by_parallel, by_series, count_into, count_out_of}
 
 -- ---- systems
@@ -140,6 +143,45 @@ lone_has_system = record {
 
 pub lone_has_parts : HasParts lone_term
 lone_has_parts = (tt, tt)
+
+-- ---- the term of a graph of version 2
+
+-- one task, and nothing to read
+abbrev pub lone_system : SharedTaskSystem
+lone_system = record { tasks = task 3 0 ∷ []; items = [] }
+
+pub lone_is_shared_term : IsSharedTerm lone_system (1 ∷ []) lone_term
+lone_is_shared_term = record {
+  lasts = [];
+  are_last = record { len = refl; each = λ i lt. absurd (omega (arith, lt)) };
+  has = lone_has_system;
+}
+
+-- a name past the number of tasks is none of theirs
+pub lone_told : told 1 (1 ∷ 2 ∷ []) (1 ∷ 2 ∷ []) ≡ 1 ∷ []
+lone_told = refl
+
+-- task 1 makes 5, which tasks 2, 3 and 4 read, and tasks 2 and 3 make 1 and 3 for task 4, which comes last and carries all
+abbrev pub fork : SharedTaskSystem
+fork = record {
+  tasks = task 0 0 ∷ task 1 0 ∷ task 2 0 ∷ task 2 0 ∷ [];
+  items = record { size = 5; from = Some 1; readers = 2 ∷ 3 ∷ 4 ∷ [] } ∷ record { size = 1; from = Some 2; readers = 4 ∷ [] }
+      ∷ record { size = 3; from = Some 3; readers = 4 ∷ [] } ∷ [];
+}
+
+pub fork_carried : (carried (4 ∷ 4 ∷ 4 ∷ []) fork).arcs ≡ arc 1 2 0 ∷ arc 1 3 0 ∷ arc 1 4 5 ∷ arc 2 4 1 ∷ arc 3 4 3 ∷ []
+fork_carried = refl
+
+pub fork_text :
+    named_text
+    (Hold 0 ∷ Hold 0 ∷ Hold 1 ∷ at.Task 1 0 1 ∷ Hold 0 ∷ Hold 3 ∷ at.Task 2 0 1 ∷ Hold 5 ∷ Par 3 ∷ Hold 0 ∷ at.Task 2 0 1 ∷ at.Task 0 0 1 ∷ [])
+    (2 ∷ 3 ∷ 4 ∷ 1 ∷ [])
+    ≡ codes "workflow 1\ntasks 4\ndata 0\ndata 0\ndata 1\ntask 1 1\ndata 0\ndata 3\ntask 2 1\ndata 5\npar 3\ndata 0\ntask 2 1\ntask 0 1\nend\n"
+    ++ codes "# 1 2\n# 2 3\n# 3 4\n# 4 1\n"
+unfolding digits
+fork_text = refl
+
+-- ---- the text of a term
 
 -- the workflow of `four.graph`, whose task 1 is the graph's 3
 pub four_text :

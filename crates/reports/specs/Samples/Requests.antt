@@ -7,7 +7,7 @@ use Rattle.requests.specs.declared.commands.demo.Demo.TheVariants as demos
 use Rattle.requests.specs.Request.{Request, Input, tree_input, tree_named, matrix_named, workflow_named, Matrix, natural, min_degree}
 use Rattle.requests.specs.Request.{perm_named, order_named, plan_named, replay, tree, post, check, planning, as_file, as_json, simulate}
 use Rattle.requests.specs.Request.{demo, upgrade, tree_upgrade, graph_upgrade, plan_upgrade, spill, segments, fronts, reduce, files_of, FileRole, tree_file}
-use Rattle.requests.specs.Request.{workflow_file, graph_file, matrix_file, perm_file, order_file, plan_file, priority_file}
+use Rattle.requests.specs.Request.{workflow_file, matrix_file, perm_file, order_file, plan_file, priority_file}
 use Rattle.requests.specs.Request.{plan_priority_file, NamedFile, input_tasks, graph_tasks, shared_graph_file}
 use Rattle.requests.specs.Words.{request_of, AsksNothing}
 
@@ -148,6 +148,6 @@ pub files_of_others :
     ∷ (file workflow_file (codes "w") ∷ file order_file (codes "o") ∷ [])
     ∷ (file shared_graph_file (codes "g") ∷ file order_file (codes "o") ∷ [])
     ∷ (file plan_file (codes "p") ∷ file plan_priority_file (codes "r") ∷ [])
-    ∷ (file graph_file (codes "g") ∷ [])
+    ∷ (file shared_graph_file (codes "g") ∷ [])
     ∷ [] ∷ []
 files_of_others = refl

@@ -1,18 +1,22 @@
-//! `reduce`: the term of a task graph, as a workflow file with the names of its tasks; or an irreducible rest, where the graph has none.
+//! `reduce`: the term of a task graph, as a workflow file with the names of its tasks; or why the graph has none.
 
 ghost use Rattle.std.specs.Prelude.{◌≡◌, ◌≤◌, ◌++◌, ℕ, List, IfOk, OnOk, IsTrue, map};
-ghost use Rattle.mp_text.specs.Report.{is_line_start, text_of_lines};
-ghost use Rattle.reports.specs.Reduce.{arc_line, reduced_answer, rest_answer, IsReduceAnswer};
+ghost use Rattle.mp_text.specs.Report.{is_line_start, is_token, text_of_lines};
+ghost use Rattle.reports.specs.Reduce.{arc_line, arcs_answer, reduced_answer};
+ghost use Rattle.reports.specs.Reduce.{IsReduceAnswer, IsRefusalAnswer, IsItemsReduceAnswer, IsEitherReduceAnswer};
 ghost use Rattle.reports.specs.Reported.{IsReported};
 ghost use Rattle.judging.specs.Pages.{answer_of};
 ghost use Rattle.requests.specs.Request.{reduce as reducing};
 
 use graphs::Graph;
-use judging::{GraphFile, Page, PageKind, Stop, judge, print_end};
+use judging::{EitherGraphFile, Page, PageKind, Stop, judge, line_page, print_end};
 use mp_outside::Files;
 use mp_text::Report;
 use mp_text::Token::{Number, Word};
 use mp_text::laws::printed_lines;
+use shared_graph_files::EitherGraph;
+use shared_reduce::{SharedReduceRefusal, reduce_shared};
+use shared_systems::SharedSystem;
 use sp_reduce::{ReduceRefusal, Reduced, reduce};
 use std::alloc::{AllocError, Global};
 use workflow_files::print_named;
@@ -43,14 +47,15 @@ fn print_arcs(arcs: &[(u32, u32)], report: &mut Report) -> Result<(), AllocError
     Ok(())
 }
 
-// `refused graph rest K`, the arcs, `end`
-fn rest_page(alloc: Global, arcs: &[(u32, u32)]) -> Result<Page, AllocError>
-    ensures { IfOk result (λ page. answer_of page ≡ rest_answer arcs.now) }
+// `refused graph KIND K`, the arcs, `end`
+fn arcs_page(alloc: Global, kind: &str, arcs: &[(u32, u32)]) -> Result<Page, AllocError>
+    requires { IsTrue (is_token kind.now) }
+    ensures { IfOk result (λ page. answer_of page ≡ arcs_answer kind.now arcs.now) }
 {
     printed_lines();
     let mut report = Report::new(alloc);
     let (refused, graph) = (Word("refused"), Word("graph"));
-    report.line(&[refused, graph, Word("rest"), Number(arcs.len() as u64)])?;
+    report.line(&[refused, graph, Word(kind), Number(arcs.len() as u64)])?;
     print_arcs(arcs, &mut report)?;
     print_end(&mut report)?;
     let kind = PageKind::NotSeriesParallel;
@@ -58,7 +63,7 @@ fn rest_page(alloc: Global, arcs: &[(u32, u32)]) -> Result<Page, AllocError>
 }
 
 // The term, or the rest.
-fn reduce_page(alloc: Global, graph: &Graph) -> Result<Page, AllocError>
+fn graph_page(alloc: Global, graph: &Graph) -> Result<Page, AllocError>
     ensures { IfOk result (λ page. IsReduceAnswer graph.now (answer_of page)) }
 {
     match reduce(alloc, graph) {
@@ -66,17 +71,70 @@ fn reduce_page(alloc: Global, graph: &Graph) -> Result<Page, AllocError>
             reduced.terms.keeps();
             term_page(alloc, &reduced)
         }
-        Err(ReduceRefusal::Rest(arcs)) => rest_page(alloc, &arcs),
+        Err(ReduceRefusal::Rest(arcs)) => arcs_page(alloc, "rest", &arcs),
         Err(ReduceRefusal::NoMemory) => Err(AllocError),
     }
 }
 
-/// The term of the graph, or the rest that it comes to.
+// `refused graph item I`
+fn item_page(alloc: Global, item: u32) -> Result<Page, AllocError>
+    ensures { IfOk result (λ page. IsRefusalAnswer (SharedReduceRefusal.Item item) (answer_of page)) }
+{
+    let (refused, graph) = (Word("refused"), Word("graph"));
+    let words = [refused, graph, Word("item"), Number(u64::from(item))];
+    line_page(alloc, PageKind::NotSeriesParallel, &words)
+}
+
+// `refused graph arcs`
+fn too_many_page(alloc: Global) -> Result<Page, AllocError>
+    ensures { IfOk result (λ page. IsRefusalAnswer SharedReduceRefusal.Arcs (answer_of page)) }
+{
+    let words = [Word("refused"), Word("graph"), Word("arcs")];
+    line_page(alloc, PageKind::NotSeriesParallel, &words)
+}
+
+// Why a graph of version 2 has no term.
+fn refusal_page(alloc: Global, refusal: &SharedReduceRefusal) -> Result<Page, AllocError>
+    ensures { IfOk result (λ page. IsRefusalAnswer refusal.now (answer_of page)) }
+{
+    match refusal {
+        SharedReduceRefusal::Uses(arcs) => arcs_page(alloc, "uses", arcs),
+        SharedReduceRefusal::Item(item) => item_page(alloc, *item),
+        SharedReduceRefusal::Rest(arcs) => arcs_page(alloc, "rest", arcs),
+        SharedReduceRefusal::Arcs => too_many_page(alloc),
+        SharedReduceRefusal::NoMemory => Err(AllocError),
+    }
+}
+
+// The term of a graph of version 2, or why it has none.
+fn items_page(alloc: Global, system: &SharedSystem) -> Result<Page, AllocError>
+    ensures { IfOk result (λ page. IsItemsReduceAnswer system.now (answer_of page)) }
+{
+    match reduce_shared(alloc, system) {
+        Ok(reduced) => {
+            reduced.terms.keeps();
+            term_page(alloc, &reduced)
+        }
+        Err(refusal) => refusal_page(alloc, &refusal),
+    }
+}
+
+// The same of a graph of either version.
+fn either_page(alloc: Global, stated: &EitherGraph) -> Result<Page, AllocError>
+    ensures { IfOk result (λ page. IsEitherReduceAnswer stated.now (answer_of page)) }
+{
+    match stated {
+        EitherGraph::Arcs(graph) => graph_page(alloc, graph),
+        EitherGraph::Items(system) => items_page(alloc, system),
+    }
+}
+
+/// The term of the graph, or why it has none.
 pub fn report_reduce<F: Files>(alloc: Global, files: &mut F, name: &str) -> Result<Page, Stop>
     ensures told { IsReported (F.bytes_of files.old) (F.faults_of files.old) (F.faults_of files.new) (reducing name.now) result }
     ensures same { (other : List ℕ) → F.bytes_of files.new other ≡ F.bytes_of files.old other }
     ensures later { (other : List ℕ) → F.faults_of files.old other ≤ F.faults_of files.new other }
 {
-    let graph = judge(alloc, files, name, &GraphFile)?;
-    Ok(reduce_page(alloc, &graph)?)
+    let stated = judge(alloc, files, name, &EitherGraphFile)?;
+    Ok(either_page(alloc, &stated)?)
 }

@@ -22,12 +22,15 @@ pub const TURNED: &str = "2 3 1 4\n";
 const GRAPH: &str =
     "graph 1\ntasks 4\n0 0 1\n2 0 1\n3 0 1\n0 0 1\narcs 4\n1 2 5\n1 3 6\n2 4 1\n3 4 2\nend\n";
 
+// Two tasks read the 7, and the second the 2 of the first.
+const CHAIN: &str = "graph 2\ntasks 2\n1 0 1\n1 0 1\nitems 2\n7 0 1 2\n2 1 2\nend\n";
+
 // One task with a block of its own.
 const ONE: &str = "tree 1\nnodes 1\n0 7 2 1\nend\n";
 
 #[rattlefmt::skip]
 pub const FILES: Texts = &[
-    ("t", FIVE), ("o", "1 3 2 4 5\n"), ("p", "5 4 3 2 1\n"), ("m", ARROW), ("q", TURNED), ("g", GRAPH), ("s", PLAN), ("u", ONE),
+    ("t", FIVE), ("o", "1 3 2 4 5\n"), ("p", "5 4 3 2 1\n"), ("m", ARROW), ("q", TURNED), ("g", GRAPH), ("h", CHAIN), ("s", PLAN), ("u", ONE),
 ];
 
 // ---- runs
@@ -80,6 +83,7 @@ const ANSWERS: &[(&str, &str)] = &[
     (SEGMENTS, OF_FIVE),
     (FRONTS, ABREAST),
     (REDUCE, WORKFLOW),
+    ("reduce --graph h", "workflow 1\ntasks 2\ndata 7\ndata 0\ndata 2\ntask 1 1\npar 2\ndata 0\ntask 1 1\nend\n# 1 1\n# 2 2\n"),
     ("upgrade --tree t", "tree 2\nnodes 5\n2 1 9 0 1\n5 5 0 0 1\n4 1 9 0 1\n5 5 0 0 1\n0 0 0 0 1\nend\n"),
     // a root alone, with a block of 850 and an extra of 764
     ("demo --seed 1 --tasks 1", "demo tree\ntasks 1\npositions 3\npeak 1614\npostorder 1614\ncheck yes\nend\n"),

@@ -6,8 +6,7 @@ returns c =
     let formats : Formats = record {
       trees = record { not_both = c.exactly_one.ensures.not_both; one_refusal = c.exactly_one.ensures.one_refusal };
       workflows = record { not_both = c.exactly_one-2.ensures.not_both; one_refusal = c.exactly_one-2.ensures.one_refusal };
-      graphs = record { not_both = c.exactly_one-5.ensures.not_both; one_refusal = c.exactly_one-5.ensures.one_refusal };
-      shared_graphs = record { not_both = c.exactly_one-6.ensures.not_both; one_refusal = c.exactly_one-6.ensures.one_refusal };
+      shared_graphs = record { not_both = c.exactly_one-5.ensures.not_both; one_refusal = c.exactly_one-5.ensures.one_refusal };
       matrices = record { not_both = c.exactly_one-3.ensures.not_both; one_refusal = c.exactly_one-3.ensures.one_refusal };
       orders = record { not_both = c.exactly_one_order.ensures.not_both; one_refusal = c.exactly_one_order.ensures.one_refusal };
       perms = λ n. record { not_both = c.exactly_one_perm.ensures.not_both n; one_refusal = c.exactly_one_perm.ensures.one_refusal n };

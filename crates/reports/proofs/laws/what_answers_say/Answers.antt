@@ -1,7 +1,10 @@
-use Rattle.std.proofs.Common.{◌≡◌, ℕ, List, ap, subst}
+use Rattle.std.proofs.Common.{◌≡◌, ℕ, Bool, List, refl, sym, ap, subst}
 use Rattle.sp_terms.specs.Values.{term_of}
 use Rattle.reports.specs.Reports.{IsReport}
 use Rattle.judging.specs.Files.{Answer}
+use Rattle.shared_graph_files.specs.declared.either.EitherGraph.TheVariants.{Items}
+use Rattle.shared_graph_files.specs.EitherVersion.{StatesAs}
+use Rattle.reports.specs.Reduce.{are_second}
 use Rattle.reports.specs.Promises.{done_answer}
 use Rattle.requests.specs.Request.{Request, replay, tree, post, check, planning, simulate, demo, upgrade, spill, segments, fronts, reduce}
 use Rattle.judging.specs.declared.status.Status.TheVariants.{Done}
@@ -10,7 +13,7 @@ use Rattle.reports.proofs.SoundAnswer.{certified, best, simulated}
 use Rattle.reports.proofs.UpgradeLemmas.{upgraded}
 use Rattle.reports.proofs.SpillLemmas.{spilled_tasks}
 use Rattle.reports.proofs.StairsLemmas.{reached}
-use Rattle.reports.proofs.ReductionLemmas.{reduced, irreducible}
+use Rattle.reports.proofs.ReductionLemmas.{says_reduced}
 use Rattle.reports.proofs.laws.what_answers_say.Goals as goal
 
 -- the report of an answer that is done
@@ -52,19 +55,32 @@ returns c (segments input) texts answer possible is = λ done.
 returns c (fronts matrix bound workers) texts answer possible is = λ done.
     c.one_fronts.ensures.factored matrix bound workers texts answer
     (report_when_done (fronts matrix bound workers) texts answer is done) done
-returns c (reduce name) texts answer possible is = (
-  λ done. reduced (record {
-    read = c.read_law-2.ensures;
-    denotes = c.terms_law.ensures.denotes;
-    traversal = c.named_term_law.ensures.traversal;
-    peak = c.named_term_law.ensures.peak;
-    least = c.named_term_law.ensures.least;
-    reads = λ graph positions names is terms has. c.named_workflow.ensures.reads positions names terms
-        (c.names_law.ensures.few graph names (term_of positions) is has)
-        (c.names_law.ensures.within graph names (term_of positions) is has);
-    short = λ graph positions names is terms has. c.named_workflow.ensures.length positions names terms
-        (c.names_law.ensures.few graph names (term_of positions) is has)
-        (c.names_law.ensures.within graph names (term_of positions) is has);
-  }) texts answer (report_when_done (reduce name) texts answer is done) done,
-  λ of_rest. irreducible texts answer (report_of_rest (reduce name) texts answer is of_rest) of_rest,
-)
+returns c (reduce name) texts answer possible is =
+    says_reduced (record {
+      read = c.read_law-2.ensures;
+      denotes = c.terms_law.ensures.denotes;
+      traversal = c.named_term_law.ensures.traversal;
+      peak = c.named_term_law.ensures.peak;
+      least = c.named_term_law.ensures.least;
+      reads = λ graph positions names is terms has. c.named_workflow.ensures.reads positions names terms
+          (c.names_law.ensures.few graph names (term_of positions) is has)
+          (c.names_law.ensures.within graph names (term_of positions) is has);
+      short = λ graph positions names is terms has. c.named_workflow.ensures.length positions names terms
+          (c.names_law.ensures.few graph names (term_of positions) is has)
+          (c.names_law.ensures.within graph names (term_of positions) is has);
+    }) (record {
+      read = λ bytes system reads second. c.read_law-3.ensures bytes system
+          (c.either_law.ensures bytes (Items system) (subst (λ (b : Bool). StatesAs b bytes (Items system)) (sym second) reads));
+      denotes = c.terms_law.ensures.denotes;
+      traversal = c.told_term_law.ensures.traversal;
+      peak = c.told_term_law.ensures.peak;
+      back = c.told_term_law.ensures.back;
+      least = c.told_term_law.ensures.least;
+      reads = λ system positions names is terms term. c.named_workflow.ensures.reads positions names terms
+          (c.names_law-2.ensures.few system names (term_of positions) is term)
+          (c.names_law-2.ensures.within system names (term_of positions) is term);
+      short = λ system positions names is terms term. c.named_workflow.ensures.length positions names terms
+          (c.names_law-2.ensures.few system names (term_of positions) is term)
+          (c.names_law-2.ensures.within system names (term_of positions) is term);
+    }) texts answer (are_second texts) refl
+    (report_when_done (reduce name) texts answer is) (report_of_rest (reduce name) texts answer is)
