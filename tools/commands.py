@@ -201,7 +201,7 @@ COMMANDS: Tuple[Command, ...] = (
         options=(GRAPH,),
         one_of=("graph",),
         only_with=(),
-        prints="a workflow file, with a line `# K NAME` for each task: task K is task NAME of the graph; or the arcs, or the item, in the way",
+        prints="a workflow file, with a line `# K NAME` for each task: task K is task NAME of the graph, or a join if there is none; or the arcs, or the item, in the way",
         statuses={9: "the graph is not series-parallel, or an item has several readers and none after all the others"},
         example=("reduce --graph examples/four.graph | tail -n 4", "# 1 3\n# 2 2\n# 3 4\n# 4 1"),
     ),

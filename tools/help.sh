@@ -445,8 +445,9 @@ usage: memplan reduce --graph FILE
                 another
 
 Prints a workflow file, with a line # K NAME for each task: task K is task NAME
-of the graph; or the arcs, or the item, in the way. Status 9: the graph is not
-series-parallel, or an item has several readers and none after all the others.
+of the graph, or a join if there is none; or the arcs, or the item, in the way.
+Status 9: the graph is not series-parallel, or an item has several readers and
+none after all the others.
 
 $ memplan reduce --graph examples/four.graph | tail -n 4
 # 1 3

@@ -519,6 +519,38 @@ def arcs_of_item(item: SharedItem, last: Optional[int]) -> list[tuple[int, int, 
     return [(start, reader + 1, item.size if reader == last else 0) for reader in item.readers] or [(start, 0, item.size)]
 
 
+def joins_of(system: SharedSystem) -> list[list[int]]:
+    """The tasks of each join: those that have the same readers, two of them or more, or just the readers of an item; in the order of the first."""
+    readers: list[set[int]] = [set() for _ in range(system.count)]
+    for item in system.items:
+        if item.maker is not None:
+            readers[item.maker].update(item.readers)
+    kinds: dict[frozenset[int], list[int]] = {}
+    for task in range(system.count):
+        kinds.setdefault(frozenset(readers[task]), []).append(task)
+    sets = [set(item.readers) for item in system.items if len(item.readers) > 1]
+    return [tasks for kind, tasks in kinds.items() if kind and (len(tasks) > 1 and len(kind) > 1 or set(tasks) in sets)]
+
+
+def joined(system: SharedSystem) -> SharedSystem:
+    """With its joins, which come after the tasks: what a join's tasks make for others goes through it, and what just these tasks read is read by
+    it too."""
+    joins = joins_of(system)
+    join_of = {task: system.count + place for place, tasks in enumerate(joins) for task in tasks}
+    through, items = [0] * len(joins), []
+    for item in system.items:
+        readers = [*item.readers]
+        if len(readers) > 1 and readers in joins:
+            readers.append(system.count + joins.index(readers))
+        join = join_of.get(item.maker) if item.readers else None
+        if join is None:
+            items.append(SharedItem(item.size, item.maker, readers))
+        else:
+            through[join - system.count] += item.size
+            items += [SharedItem(item.size, item.maker, [join]), SharedItem(item.size, join, readers)]
+    return SharedSystem([*system.tasks, *((0, size, 1) for size in through)], items)
+
+
 def rest_text(word: str, graph: Graph) -> Optional[str]:
     """What `reduce` says of a completed graph that has no term."""
     if (rest := rest_of(graph)) == [(0, 0)]:
@@ -531,7 +563,7 @@ def reduction_of(text: bytes) -> tuple[Graph, Optional[str]]:
     if rows(text)[0][1] == "1":
         graph = graph_of(text)
         return graph, rest_text("rest", graph)
-    system = shared_system_of_graph(text)
+    system = joined(shared_system_of_graph(text))
     bare = [(0, 0, 1)] * system.count
     uses = completed(Graph(bare, [(start, end, 0) for item in system.items for start, end, _ in arcs_of_item(item, None) if end]))
     if system.shared_items() and (refusal := rest_text("uses", uses)):

@@ -130,6 +130,22 @@ def text_of_items(draw: random.Random, count: int, most: int, items: list[tuple[
     return lines_of_graph(2, tasks, "items", items)
 
 
+def random_layered_graph(draw: random.Random) -> bytes:
+    """Of version 2, in layers: the tasks of one mostly supply each task of the next, by an item for all or by one for each; a layer may read an input."""
+    count = draw.choice([3, 4, 5, 6, 7, 7])
+    names, most = draw.sample(range(1, count + 1), count), draw.choice([2, 9, 99])
+    layers = []
+    while names:
+        layers.append(sorted(names.pop() for _ in range(min(len(names), draw.randint(1, 3)))))
+    items = [(draw.randint(0, most), 0, *layer) for layer in layers if draw.random() < 0.4]
+    for layer, readers in zip(layers, [*layers[1:], []]):
+        for name in layer:
+            mine = readers if draw.random() < 0.9 else draw.sample(readers, draw.randint(0, len(readers)))
+            whole = draw.random() < 0.5
+            items += [(draw.randint(0, most), name, *sorted(mine))] if whole else [(draw.randint(0, most), name, reader) for reader in sorted(mine)]
+    return text_of_items(draw, count, most, draw.sample(items, len(items)))
+
+
 def random_forked_graph(draw: random.Random) -> bytes:
     """Of version 2, mostly of a series-parallel term: an item goes along an arc, and is read on the way now and then, before its end."""
     count = draw.choice([1, 2, 3, 4, 5, 6, 7, 7, 7])

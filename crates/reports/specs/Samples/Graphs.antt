@@ -23,7 +23,7 @@ use Rattle.shared_systems.specs.Shared.{SharedTaskSystem}
 use Rattle.carried_graphs.specs.Carried.{carried}
 use Rattle.workflow_files.specs.NamedText.{named_text}
 use Rattle.sp_reduce.specs.Reduced.{HasSystem, HasParts}
-use Rattle.shared_reduce.specs.SharedTerm.{IsSharedTerm, told}
+use Rattle.shared_reduce.specs.SharedTerm.{IsCarriedTerm, told}
 use Rattle.sp_reduce.specs.Reductions.{IsParallel, IsSeries, ReducesTo, in_order, by_parallel, by_series, count_into, count_out_of}
 
 -- ---- systems
@@ -150,14 +150,14 @@ lone_has_parts = (tt, tt)
 abbrev pub lone_system : SharedTaskSystem
 lone_system = record { tasks = task 3 0 ∷ []; items = [] }
 
-pub lone_is_shared_term : IsSharedTerm lone_system (1 ∷ []) lone_term
-lone_is_shared_term = record {
+pub lone_is_carried_term : IsCarriedTerm lone_system (1 ∷ []) lone_term
+lone_is_carried_term = record {
   lasts = [];
   are_last = record { len = refl; each = λ i lt. absurd (omega (arith, lt)) };
   has = lone_has_system;
 }
 
--- a name past the number of tasks is none of theirs
+-- a name past the number of tasks is none of theirs: it is a join's
 pub lone_told : told 1 (1 ∷ 2 ∷ []) (1 ∷ 2 ∷ []) ≡ 1 ∷ []
 lone_told = refl
 
