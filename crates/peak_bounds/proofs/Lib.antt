@@ -7,3 +7,6 @@ pub mod Within
 pub mod Steps
 pub mod Following
 pub mod AtBlockers
+pub mod Searching
+pub mod UseLists
+pub mod Told

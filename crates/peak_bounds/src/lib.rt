@@ -6,8 +6,16 @@
 
 mod evidence;
 pub mod laws;
+mod lowered;
+mod needs;
+mod search;
 mod step;
+mod use_table;
 mod uses;
 
 pub use evidence::{Amount, Blocker, BlockerTest, EventSet, Evidence, Objection};
 pub use step::Event;
+use std::alloc::AllocError;
+
+/// Want of memory: an allocation was refused.
+pub type NoMemory = AllocError;
