@@ -71,7 +71,7 @@ module _ (u v : ℕ) where
       ∙ ap (λ (b : Bool). (is_made_by u x && is_read_by v x) || b) (between_is items)
 
 module _ (system : SharedTaskSystem) (test : ℕ → Bool) (u v : ℕ) (e : reads_from system u v ≡ true) where
-  use_at : (k : ℕ) × (k < length (uses_of system.items)) × (is_between u v (get_or (uses_of system.items) k no_use) ≡ true)
+  pub use_at : (k : ℕ) × (k < length (uses_of system.items)) × (is_between u v (get_or (uses_of system.items) k no_use) ≡ true)
   use_at = found_at (is_between u v) (uses_of system.items) no_use (between_is u v system.items ∙ e)
 
   -- what passes the test reads what u makes, or makes what v reads

@@ -9,4 +9,5 @@ pub mod Following
 pub mod AtBlockers
 pub mod Searching
 pub mod UseLists
+pub mod Links
 pub mod Told

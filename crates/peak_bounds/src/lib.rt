@@ -7,6 +7,7 @@
 mod evidence;
 pub mod laws;
 mod lowered;
+mod marks;
 mod needs;
 mod search;
 mod step;
