@@ -9,5 +9,6 @@ pub mod Following
 pub mod AtBlockers
 pub mod Searching
 pub mod UseLists
+pub mod UseTotals
 pub mod Links
 pub mod Told

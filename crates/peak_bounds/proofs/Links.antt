@@ -29,7 +29,7 @@ named (Some u) v is some = eq-eqb u v is
 unnamed : (end : Option ℕ) (v : ℕ) → is_named end v ≡ true → unwrap_or end 0 ≡ v
 unnamed end v e = ap (λ (o : Option ℕ). unwrap_or o 0) (is_the end v e)
 
-end_at : (end : Use → ℕ) (uses : List Use) (ends : List ℕ) (k : ℕ) → ends ≡ map end uses → k < length uses → get_or ends k 0 ≡ end (get_or uses k no_use)
+pub end_at : (end : Use → ℕ) (uses : List Use) (ends : List ℕ) (k : ℕ) → ends ≡ map end uses → k < length uses → get_or ends k 0 ≡ end (get_or uses k no_use)
 end_at end uses ends k is lt = ap (λ (l : List ℕ). get_or l k 0) is ∙ get_or-map end uses k no_use 0 lt
 
 module _ (system : SharedTaskSystem) (within : IsSharedSystem system) (uses : UseTable) (are : AreUses system uses) where

@@ -114,3 +114,7 @@ sum_more sizes places i lt = ap (sum_at sizes) (take_more places i 0 lt) ∙ sum
 pub small_sides : (z : ℤ) → unsigned_abs z ≤ most_total → (neg_ℤ (pos most_total) ≤ℤ z) × (z ≤ℤ pos most_total)
 small_sides (pos n) small = (omega (arith, ints, small), omega (arith, ints, small))
 small_sides (negsuc n) small = (omega (arith, ints, small), omega (arith, ints, small))
+
+pub either_sides : (b : Bool) (z : ℤ) → unsigned_abs z ≤ most_total → (neg_ℤ (pos most_total) ≤ℤ cond b z (pos 0)) × (cond b z (pos 0) ≤ℤ pos most_total)
+either_sides true z small = small_sides z small
+either_sides false z small = small_sides (pos 0) (omega arith)

@@ -6,6 +6,7 @@
 
 mod evidence;
 pub mod laws;
+mod levels;
 mod lowered;
 mod marks;
 mod needs;
