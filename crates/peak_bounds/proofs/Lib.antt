@@ -10,5 +10,6 @@ pub mod AtBlockers
 pub mod Searching
 pub mod UseLists
 pub mod UseTotals
+pub mod Verdicts
 pub mod Links
 pub mod Told

@@ -1,5 +1,6 @@
 pub mod EventSets
 pub mod Evidence
+pub mod Judged
 pub mod Judging
 pub mod Moments
 pub mod Samples

@@ -139,6 +139,6 @@ pub enum Objection {
         /// The test.
         test: BlockerTest,
         /// The place of the blocker.
-        place: u32,
+        place: u64,
     },
 }

@@ -5,6 +5,7 @@
 #![tactic(auto)]
 
 mod evidence;
+mod judging;
 pub mod laws;
 mod levels;
 mod lowered;
@@ -16,8 +17,9 @@ mod use_table;
 mod uses;
 
 pub use evidence::{Amount, Blocker, BlockerTest, EventSet, Evidence, Objection};
-pub use step::Event;
+pub use judging::judge_evidence;
 use std::alloc::AllocError;
+pub use step::Event;
 
 /// Want of memory: an allocation was refused.
 pub type NoMemory = AllocError;
