@@ -36,7 +36,8 @@ fn spread_from(
     Ok(())
 }
 
-/// Marks what is reached from the tasks of the work. The links stand in rows by the tasks that they lead from. Linear in the tasks and links.
+/// Marks what is reached from the tasks of the work. The links stand in rows by the tasks that they lead from. Linear in the tasks and
+/// links.
 pub fn spread(
     near: &[u32],
     far: &[u32],

@@ -47,8 +47,8 @@ fn fan(alloc: Global) -> Result<SharedSystem, SharedRefusal> {
     shared_system_of_arrays(alloc, &tasks, &items, &[2, 4, 1, 3])
 }
 
-// Tasks 2 and 3 both read what task 1 makes, and task 4 reads what they make, and takes 1 of it over; the least peak is 10. The uses: 1 to 2,
-// 1 to 3, 2 to 4, 3 to 4, and of task 4 to none.
+// Tasks 2 and 3 both read what task 1 makes, and task 4 reads what they make, and takes 1 of it over; the least peak is 10. The uses: 1 to
+// 2, 1 to 3, 2 to 4, 3 to 4, and of task 4 to none.
 fn diamond(alloc: Global) -> Result<SharedSystem, SharedRefusal> {
     let tasks = [task(0, 0), task(1, 0), task(2, 0), task(2, 1)];
     let items = [item(5, 1, 2), item(1, 2, 1), item(3, 3, 1), item(2, 4, 0)];
