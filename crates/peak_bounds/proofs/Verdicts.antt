@@ -1,8 +1,8 @@
 -- What is said of evidence: what was found of each blocker, put together.
-use Rattle.std.proofs.Common.{◌≡◌, ◌≢◌, ◌↔◌, ℕ, ◌+◌, ◌-◌, ◌<◌, ◌≤◌, Bool, true, false, List, [], ◌∷◌, length, map, get_or, Option, Some, None}
+use Rattle.std.proofs.Common.{◌≡◌, ◌≢◌, ◌↔◌, ℕ, ◌+◌, ◌-◌, ◌<◌, ◌≤◌, Bool, true, List, [], length, get_or, Option, Some, None}
 use Rattle.std.proofs.Common.{refl, sym, ap, subst, ◌∙◌, arith}
 use Rattle.std.specs.Prelude.{ℤ, pos, ◌≤ℤ◌, All, MatchOption, IsNone}
-use Rattle.std.proofs.lemmas.List.{get_or-map, get_or_default, get_or_read, length-map}
+use Rattle.std.proofs.lemmas.List.{get_or-map, get_or_read, length-map}
 use Rattle.std.proofs.lemmas.List.FromFn.{length-map-range_with_len}
 use Rattle.lists.specs.Numbers.{Each, IsFirstWithout, IsPlace}
 use Rattle.mp_system.specs.Replay.{is_marked}

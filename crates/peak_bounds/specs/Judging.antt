@@ -1,13 +1,12 @@
 -- No public clause names this.
 -- Uses of items as the code holds them, what a search over them finds, and sums of lowered sizes.
-use Rattle.std.specs.Prelude.{◌≡◌, ◌==◌, ℕ, ◌+◌, ◌-◌, ◌^◌, ◌<◌, ◌≤◌, Bool, true, not, ◌⊎◌, All, List, [], ◌∷◌, length, map, count_by}
+use Rattle.std.specs.Prelude.{◌≡◌, ◌==◌, ℕ, ◌+◌, ◌^◌, ◌<◌, ◌≤◌, Bool, true, not, ◌⊎◌, All, List, [], ◌∷◌, length, map, count_by}
 use Rattle.std.specs.Prelude.{slice_index, slice_index_or, unwrap_or, ℤ, pos, ◌+ℤ◌, unsigned_abs}
 use Rattle.std.specs.List.{list_any}
 use Rattle.limits.specs.Limits.{most_total}
 use Rattle.mp_system.specs.Memory.{stands_in}
 use Rattle.mp_system.specs.Replay.{is_marked}
 use Rattle.row_table.specs.Rows.{row_at, numbers_with}
-use Rattle.graphs.specs.Graph.{IsAmong}
 use Rattle.shared_systems.specs.Shared.{SharedTaskSystem}
 use Rattle.peak_bounds.specs.declared.uses.Use.{Use}
 use Rattle.peak_bounds.specs.declared.use_table.UseTable.{UseTable}

@@ -50,7 +50,12 @@ pub fn uses_of(alloc: Global, system: &SharedSystem) -> Result<UseTable, NoMemor
     let mut makers = Vec::new(alloc);
     let mut takers = Vec::new(alloc);
     for i in 0..items.len() {
-        push_uses(&mut makers, &mut takers, items.producer(i), items.readers(i))?;
+        push_uses(
+            &mut makers,
+            &mut takers,
+            items.producer(i),
+            items.readers(i),
+        )?;
     }
     let count = system.tasks().len() as u32 + 1;
     let made = RowTable::group(alloc, &makers, count, 0)?;

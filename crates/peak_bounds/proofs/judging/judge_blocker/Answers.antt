@@ -1,13 +1,12 @@
-use Rattle.std.proofs.Common.{◌≡◌, ℕ, ◌+◌, ◌<◌, ◌≤◌, Bool, true, false, List, length, All, arith, ap, sym, subst, ◌∙◌, refl}
-use Rattle.std.specs.Prelude.{ℤ, pos, ◌≤ℤ◌}
+use Rattle.std.proofs.Common.{◌≡◌, ℕ, ◌+◌, Bool, List, length, All, arith, ap, sym, subst, ◌∙◌, refl}
+use Rattle.std.specs.Prelude.{ℤ}
 use Rattle.std.proofs.lemmas.Bool.{both_ways}
 use Rattle.shared_systems.specs.Shared.{HasTask, SharedItem}
 use Rattle.peak_bounds.specs.declared.evidence.Amount.{Amount}
-use Rattle.peak_bounds.specs.declared.evidence.BlockerTest.TheVariants as tests
 use Rattle.peak_bounds.specs.declared.judging.FormTest.TheVariants as forms
 use Rattle.peak_bounds.specs.EventSets.{BlockerValue}
-use Rattle.peak_bounds.specs.Moments.{uses_of, Moment, FitSizes, level_of}
-use Rattle.peak_bounds.specs.Evidence.{use_count, lowered_by, blocker_at, IsAmount, AreAmounts, IsMomentOf, Passes, OpenTasksRise}
+use Rattle.peak_bounds.specs.Moments.{uses_of, Moment, FitSizes}
+use Rattle.peak_bounds.specs.Evidence.{use_count, lowered_by, blocker_at, IsAmount, AreAmounts, IsMomentOf}
 use Rattle.peak_bounds.proofs.Verdicts.{blocker_is, tasks_same, count_is, lowered-len, moment_is, not_open, not_level}
 use Rattle.peak_bounds.proofs.judging.judge_blocker.Goals as goal
 use Rattle.peak_bounds.proofs.judging.judge_blocker.Goals.{After-amounts, After-event, In_ok-lowered, In_ok-waiting}

@@ -1,11 +1,8 @@
-use Rattle.std.proofs.Common.{◌≤◌, ◌↔◌, ℕ, List, Option, ap, sym, subst}
+use Rattle.std.proofs.Common.{◌↔◌, sym, subst}
 use Rattle.std.specs.Prelude.{IsNone, IfOk}
 use Rattle.std.proofs.lemmas.Result.{IfOk-weaker}
-use Rattle.shared_systems.specs.SharedMemory.{shared_peak_of}
-use Rattle.shared_systems.specs.SharedTraversal.{IsSharedTraversal}
 use Rattle.peak_bounds.specs.declared.evidence.Evidence.{Evidence}
 use Rattle.peak_bounds.specs.declared.evidence.Evidence.TheVariants.{Need, Set}
-use Rattle.peak_bounds.specs.declared.evidence.Objection.{Objection}
 use Rattle.peak_bounds.specs.Evidence.{IsEvidence}
 use Rattle.peak_bounds.proofs.Verdicts.{exactly, peaks_by}
 use Rattle.peak_bounds.proofs.judging.judge_evidence.Goals as goal

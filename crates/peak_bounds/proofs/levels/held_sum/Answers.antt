@@ -1,9 +1,8 @@
-use Rattle.std.proofs.Common.{◌≡◌, ℕ, Bool, ◌<◌, ◌+◌, ◌*◌, List, length, map, get_or, cond, arith, w64, FitsSigned, rules, pos, neg_ℤ, sym, ap, ◌∙◌}
+use Rattle.std.proofs.Common.{◌≡◌, ℕ, Bool, ◌<◌, List, length, get_or, cond, arith, w64, FitsSigned, rules, pos, ap, ◌∙◌}
 use Rattle.std.specs.Prelude.{ℤ}
 use Rattle.std.proofs.lemmas.Int.{ints, to_z-of_z}
 use Rattle.std.proofs.lemmas.List.{get_or_read, length-map}
 use Rattle.mp_system.specs.Replay.{is_marked}
-use Rattle.peak_bounds.specs.declared.uses.Use.{Use}
 use Rattle.peak_bounds.specs.Moments.{uses_of, is_held_for}
 use Rattle.peak_bounds.proofs.Following.{no_use}
 use Rattle.peak_bounds.specs.Judging.{maker_of, taker_of}

@@ -1,4 +1,4 @@
-use Rattle.std.proofs.Common.{◌≡◌, ℕ, ◌<◌, ◌≤◌, ◌+◌, List, length, map, get_or, arith, sym, ap, ◌∙◌, FitsSigned, rules}
+use Rattle.std.proofs.Common.{◌≡◌, ℕ, List, length, map, arith, ap, ◌∙◌, FitsSigned, rules}
 use Rattle.std.specs.Int.{w128}
 use Rattle.std.proofs.lemmas.Int.{ints}
 use Rattle.std.proofs.lemmas.List.{length-map}

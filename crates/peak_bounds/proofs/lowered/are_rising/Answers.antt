@@ -1,8 +1,8 @@
-use Rattle.std.proofs.Common.{◌≡◌, ap, ℕ, ◌<◌, ◌≤◌, ◌+◌, ◌-◌, length, map, get_or, arith, below_more, inl, inr}
+use Rattle.std.proofs.Common.{◌≡◌, ap, ℕ, ◌<◌, ◌≤◌, ◌+◌, ◌-◌, length, map, get_or, arith, inl, inr}
 use Rattle.std.proofs.lemmas.Bool.{cases_lt}
 use Rattle.std.proofs.lemmas.List.{length-map}
 use Rattle.peak_bounds.specs.Evidence.{place_of}
-use Rattle.peak_bounds.proofs.Told.{no_amount, place_at}
+use Rattle.peak_bounds.proofs.Told.{place_at}
 use Rattle.peak_bounds.proofs.lowered.are_rising.Goals as goal
 
 pub returns-then-amounts-i : goal.returns-then-amounts-i

@@ -1,4 +1,4 @@
-use Rattle.std.proofs.Common.{◌≡◌, ℕ, ◌<◌, ◌+◌, List, ◌++◌, length, take, drop, get_or, replicate, refl, sym, ap, subst, ◌∙◌, arith, pos}
+use Rattle.std.proofs.Common.{◌≡◌, ◌<◌, ◌+◌, List, length, replicate, sym, ap, subst, ◌∙◌, arith, pos}
 use Rattle.std.specs.Prelude.{ℤ}
 use Rattle.std.proofs.lemmas.List.{take_at, get_or-replicate, length-replicate}
 use Rattle.peak_bounds.specs.Evidence.{amount_or, lowered_by}

@@ -1,4 +1,4 @@
-use Rattle.std.proofs.Common.{ℕ, ◌<◌, ◌+◌, length, map, get_or, arith, w64, FitsSigned, rules, pos}
+use Rattle.std.proofs.Common.{get_or, arith, w64, FitsSigned, rules, pos}
 use Rattle.std.proofs.lemmas.Int.{ints}
 use Rattle.peak_bounds.proofs.Told.{sum_more, small_sides}
 use Rattle.peak_bounds.proofs.lowered.sum_at.Goals as goal

@@ -1,4 +1,4 @@
-use Rattle.std.proofs.Common.{◌≡◌, Bool, List, length, ap, sym, ◌∙◌, subst}
+use Rattle.std.proofs.Common.{Bool, List, length, ap, sym, ◌∙◌}
 use Rattle.std.proofs.lemmas.List.{take_at}
 use Rattle.mp_system.specs.Replay.{is_marked}
 use Rattle.peak_bounds.proofs.Links.{later_sound, later_all}

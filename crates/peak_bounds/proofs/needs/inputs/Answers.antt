@@ -1,4 +1,4 @@
-use Rattle.std.proofs.Common.{ℕ, List, eqb, true, false, ◌<◌, length, take, arith, ap, ◌∙◌, sym}
+use Rattle.std.proofs.Common.{ℕ, List, eqb, true, false, ◌<◌, length, arith, ap, ◌∙◌, sym}
 use Rattle.std.proofs.lemmas.List.{take_all}
 use Rattle.shared_systems.specs.Shared.{is_read_by, shared_size_where}
 use Rattle.peak_bounds.proofs.Told.{part-le, part_more-le, part_more}
@@ -23,16 +23,16 @@ loop-i-preserved c =
     let read = ap (λ (l : List ℕ). list_any (λ u. eqb u c.args.task) l) (sym c.readers.ensures) ∙ sym c.has_reader.ensures in
     elim c.if-has_reader.branch [
       | then-has_reader w ↦ omega (
-          arith,
-          w.sum-is,
-          w.size-sum.ensures,
-          c.loop-i.invariant,
-          part_more (is_read_by c.args.task) c.args.items.now c.loop-i.i true inside (read ∙ w.if-has_reader.true),
-        )
+        arith,
+        w.sum-is,
+        w.size-sum.ensures,
+        c.loop-i.invariant,
+        part_more (is_read_by c.args.task) c.args.items.now c.loop-i.i true inside (read ∙ w.if-has_reader.true),
+      )
       | else-has_reader w ↦ omega (
-          arith,
-          w.sum-is,
-          c.loop-i.invariant,
-          part_more (is_read_by c.args.task) c.args.items.now c.loop-i.i false inside (read ∙ w.if-has_reader.false),
-        )
+        arith,
+        w.sum-is,
+        c.loop-i.invariant,
+        part_more (is_read_by c.args.task) c.args.items.now c.loop-i.i false inside (read ∙ w.if-has_reader.false),
+      )
     ]

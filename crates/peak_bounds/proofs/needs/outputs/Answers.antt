@@ -1,4 +1,4 @@
-use Rattle.std.proofs.Common.{◌<◌, length, take, arith, ap, ◌∙◌, sym}
+use Rattle.std.proofs.Common.{◌<◌, length, arith, ap}
 use Rattle.std.proofs.lemmas.List.{take_all}
 use Rattle.shared_systems.specs.Shared.{is_made_by, shared_size_where}
 use Rattle.peak_bounds.proofs.Told.{part-le, part_more-le}

@@ -1,10 +1,9 @@
-use Rattle.std.proofs.Common.{◌≡◌, ◌<◌, ◌≤◌, ◌+◌, ℕ, List, length, get_or, arith, sym, subst, ◌∙◌, ap, refl, All}
+use Rattle.std.proofs.Common.{◌≡◌, ◌<◌, ℕ, List, length, get_or, arith, sym, subst, ◌∙◌, ap, All}
 use Rattle.mp_system.specs.Memory.{stands_in}
 use Rattle.graphs.specs.Graph.{IsAmong}
 use Rattle.std.proofs.lemmas.List.{get_or_read, get_or_default}
 use Rattle.row_table.specs.Rows.{numbers_with}
-use Rattle.peak_bounds.specs.Judging.{AreRows}
-use Rattle.peak_bounds.proofs.Searching.{IsSearch, search_more, search_all, keyed, stands_at}
+use Rattle.peak_bounds.proofs.Searching.{search_more, search_all, keyed, stands_at}
 use Rattle.peak_bounds.proofs.search.spread.Goals as goal
 use Rattle.peak_bounds.proofs.search.spread.Goals.{After-row}
 

@@ -1,4 +1,4 @@
-use Rattle.std.proofs.Common.{◌≡◌, ◌⊎◌, ℕ, ◌+◌, ◌-◌, ◌≤◌, ◌++◌, ◌∷◌, [], true, Bool, List, get_or, set, take, length, arith, inl, inr, sym, ap, refl, false, subst, ◌∙◌, Vec, Global}
+use Rattle.std.proofs.Common.{◌≡◌, ◌⊎◌, ℕ, ◌-◌, ◌≤◌, ◌++◌, ◌∷◌, [], true, Bool, List, get_or, set, take, length, arith, inl, inr, sym, ap, refl, false, subst, ◌∙◌, Vec, Global}
 use Rattle.std.proofs.lemmas.List.{take_more}
 use Rattle.mp_system.specs.Replay.{is_marked}
 use Rattle.peak_bounds.proofs.Searching.{mark_read, IsSpread, spread_keep, spread_push}

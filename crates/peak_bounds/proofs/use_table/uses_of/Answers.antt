@@ -1,4 +1,4 @@
-use Rattle.std.proofs.Common.{◌≡◌, ◌<◌, ◌≤◌, ◌+◌, ◌^◌, ℕ, List, length, map, get_or, All, arith, sym, ap, subst, ◌∙◌}
+use Rattle.std.proofs.Common.{◌≡◌, ◌<◌, ◌≤◌, ◌+◌, ℕ, List, length, map, get_or, All, arith, sym, ap, subst, ◌∙◌}
 use Rattle.row_table.specs.Rows.{row_at, numbers_with}
 use Rattle.peak_bounds.specs.Moments.{uses_of}
 use Rattle.peak_bounds.specs.Judging.{maker_of, taker_of, AreRows}
