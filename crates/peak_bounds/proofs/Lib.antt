@@ -5,3 +5,11 @@ pub mod Orders
 pub mod AtMoment
 pub mod Within
 pub mod Steps
+pub mod Following
+pub mod AtBlockers
+pub mod Searching
+pub mod UseLists
+pub mod UseTotals
+pub mod Verdicts
+pub mod Links
+pub mod Told

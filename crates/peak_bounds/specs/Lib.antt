@@ -1,2 +1,7 @@
+pub mod EventSets
+pub mod Evidence
+pub mod Judged
+pub mod Judging
 pub mod Moments
+pub mod Samples
 pub mod Steps

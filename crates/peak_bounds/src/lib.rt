@@ -1,10 +1,25 @@
 //! Lower bounds on the peak of every traversal of a shared system, whatever its graph, with certificates that need sums alone.
 //!
-//! The definitions stand in specs/: `Moments`, `Steps`; the laws in [`laws`].
+//! The definitions stand in specs/: `Moments`, `Steps`; `EventSets` and `Evidence`, what a file tells and what it has to meet; the laws in
+//! [`laws`].
 #![tactic(auto)]
 
+mod evidence;
+mod judging;
 pub mod laws;
+mod levels;
+mod lowered;
+mod marks;
+mod needs;
+mod search;
 mod step;
+mod use_table;
 mod uses;
 
+pub use evidence::{Amount, Blocker, BlockerTest, EventSet, Evidence, Objection};
+pub use judging::judge_evidence;
+use std::alloc::AllocError;
 pub use step::Event;
+
+/// Want of memory: an allocation was refused.
+pub type NoMemory = AllocError;

@@ -1,0 +1,120 @@
+-- Lowered sizes as they are told, item by item and place by place.
+use Rattle.std.proofs.Common.{◌≡◌, ◌↔◌, ℕ, ◌+◌, ◌<◌, ◌≤◌, Bool, true, false, eqb, List, [], ◌∷◌, ◌++◌, length, map, take, drop}
+use Rattle.std.proofs.Common.{get_or, None, refl, sym, ap, subst, ◌∙◌, arith, length-append, inl, inr, cond}
+use Rattle.std.specs.Prelude.{ℤ, pos, negsuc, ◌+ℤ◌, ◌≤ℤ◌, All, unsigned_abs}
+use Rattle.std.proofs.Common.{neg_ℤ}
+use Rattle.std.specs.List.{sum_by}
+use Rattle.std.proofs.lemmas.Int.{ints}
+use Rattle.std.proofs.lemmas.Bool.{cases_Bool}
+use Rattle.std.proofs.lemmas.List.{drop_more, drop-drop, get_or-map, same_lists, get_or_default, take_more}
+use Rattle.std.proofs.lemmas.List.FromFn.{length-map-range_with_len, get_or-map-range_with_len}
+use Rattle.std.proofs.lemmas.List.Elements.{All-head, All-tail}
+use Rattle.std.proofs.lemmas.List.Sums.{sum_by-cons, sum_by_more_le_part, sum_by_more}
+use Rattle.limits.specs.Limits.{most_total}
+use Rattle.shared_systems.specs.Shared.{SharedItem, shared_item_at, shared_size_if, shared_size_where}
+use Rattle.shared_systems.specs.Bounds.{shared_size}
+use Rattle.peak_bounds.specs.declared.evidence.Amount.{Amount}
+use Rattle.peak_bounds.specs.Moments.{item_uses, uses_of, above_zero, FitSizes}
+use Rattle.peak_bounds.specs.Evidence.{amount_or, lowered_by, IsAmount, place_of}
+use Rattle.peak_bounds.specs.Judging.{size_at, sum_at, AreSmall}
+
+-- ---- sizes of items that pass a test
+
+abbrev pub no_item : SharedItem
+no_item = record { size = 0; from = None; readers = [] }
+
+size_if-le : (test : SharedItem → Bool) (x : SharedItem) → shared_size_if test x ≤ shared_size x
+size_if-le test x = elim (cases_Bool (test x)) [
+  | inl passed ↦ (let e : shared_size_if test x ≡ x.size = rw passed refl in omega (arith, e))
+  | inr failed ↦ (let e : shared_size_if test x ≡ 0 = rw failed refl in omega (arith, e))
+]
+
+pub part-le : (test : SharedItem → Bool) (items : List SharedItem) → shared_size_where test items ≤ sum_by shared_size items
+part-le test [] = omega arith
+part-le test (x ∷ items) =
+    omega (arith, size_if-le test x, part-le test items, sum_by-cons (shared_size_if test) x items, sum_by-cons shared_size x items)
+
+-- the sizes so far and the next size are within the whole
+pub part_more-le : (test : SharedItem → Bool) (items : List SharedItem) (i : ℕ) → i < length items
+    → shared_size_where test (take i items) + (shared_item_at items i).size ≤ sum_by shared_size items
+part_more-le test items i lt = sum_by_more_le_part (shared_size_if test) shared_size items i no_item lt (size_if-le test)
+
+pub part_more : (test : SharedItem → Bool) (items : List SharedItem) (i : ℕ) (passed : Bool) → i < length items → test (shared_item_at items i) ≡ passed
+    → shared_size_where test (take (i + 1) items) ≡ shared_size_where test (take i items) + cond passed (shared_item_at items i).size 0
+part_more test items i passed lt e =
+    sum_by_more (shared_size_if test) items i no_item lt
+    ∙ ap (λ (b : Bool). shared_size_where test (take i items) + cond b (shared_item_at items i).size 0) e
+
+-- ---- amounts
+
+abbrev pub no_amount : Amount
+no_amount = record { place = 0; amount = pos 0 }
+
+pub place_at : (amounts : List Amount) (k : ℕ) → k < length amounts → get_or (map place_of amounts) k 0 ≡ (get_or amounts k no_amount).place
+place_at amounts k lt = get_or-map place_of amounts k no_amount 0 lt
+
+pub lowered-is : (count : ℕ) (base own : List Amount) (first second : List ℤ) → length first ≡ count → length second ≡ count
+    → ((k : ℕ) → k < count → size_at first k ≡ amount_or (pos 0) base (k + 1))
+    → ((k : ℕ) → k < count → size_at second k ≡ amount_or (size_at first k) own (k + 1)) → second ≡ lowered_by count base own
+lowered-is count base own first second len_first len_second told own_told =
+    same_lists second (lowered_by count base own) (len_second ∙ sym (length-map-range_with_len _ 1 count)) (λ k d lt.
+    let short : k < count = omega (arith, lt, len_second) in
+    get_or_default second k d (pos 0) lt ∙ own_told k short ∙ ap (λ (z : ℤ). amount_or z own (k + 1)) (told k short)
+    ∙ sym (get_or-map-range_with_len (λ place. amount_or (amount_or (pos 0) base place) own place) 1 count k (k + 1) d short (omega arith)))
+
+amount-small : (other : ℤ) (count : ℕ) (amounts : List Amount) (place : ℕ) → unsigned_abs other ≤ most_total → All (IsAmount count) amounts
+    → unsigned_abs (amount_or other amounts place) ≤ most_total
+amount-small other count [] place small each = small
+amount-small other count (a ∷ amounts) place small each = elim (cases_Bool (eqb a.place place)) [
+  | inl here ↦ rw here (All-head (IsAmount count) a amounts each).amount
+  | inr later ↦ rw later (amount-small other count amounts place small (All-tail (IsAmount count) a amounts each))
+]
+
+pub lowered-small : (count : ℕ) (base own : List Amount) → All (IsAmount count) base → All (IsAmount count) own → AreSmall (lowered_by count base own)
+lowered-small count base own base_each own_each k d lt =
+    let short : k < count = omega (arith, lt, length-map-range_with_len (λ place. amount_or (amount_or (pos 0) base place) own place) 1 count) in
+    subst (λ (z : ℤ). unsigned_abs z ≤ most_total)
+    (sym (get_or-map-range_with_len (λ place. amount_or (amount_or (pos 0) base place) own place) 1 count k (k + 1) d short (omega arith)))
+    (amount-small (amount_or (pos 0) base (k + 1)) count own (k + 1) (amount-small (pos 0) count base (k + 1) (omega arith) base_each) own_each)
+
+-- ---- one item more
+
+module _ (items : List SharedItem) (lowered : List ℤ) (i start n : ℕ) (lt : i < length items) (n_is : n ≡ length (item_uses (shared_item_at items i))) where
+  pub fit_parts : FitSizes (drop i items) (drop start lowered)
+      ↔ ((sum_by above_zero (take n (drop start lowered)) ≤ (shared_item_at items i).size) × FitSizes (drop (i + 1) items) (drop (start + n) lowered))
+  fit_parts =
+      let x = shared_item_at items i in
+      let whole = ap (λ (xs : List SharedItem). FitSizes xs (drop start lowered)) (drop_more items i no_item lt) in
+      let parts = ap (λ (m : ℕ). (sum_by above_zero (take m (drop start lowered)) ≤ x.size) × FitSizes (drop (i + 1) items) (drop m (drop start lowered))) (sym n_is) in
+      let rest = ap (λ (l : List ℤ). (sum_by above_zero (take n (drop start lowered)) ≤ x.size) × FitSizes (drop (i + 1) items) l) (drop-drop n start lowered) in
+      let same = whole ∙ parts ∙ rest in
+      (λ h. subst (λ (T : Type 0). T) same h, λ h. subst (λ (T : Type 0). T) (sym same) h)
+
+  pub long_more : length (uses_of (drop i items)) ≡ n + length (uses_of (drop (i + 1) items))
+  long_more =
+      let x = shared_item_at items i in
+      omega (
+        arith,
+        n_is,
+        ap (λ (xs : List SharedItem). length (uses_of xs)) (drop_more items i no_item lt),
+        length-append (item_uses x) (uses_of (drop (i + 1) items)),
+      )
+
+-- ---- one place more
+
+pub sum_push : (sizes : List ℤ) (places : List ℕ) (k : ℕ) → sum_at sizes (places ++ k ∷ []) ≡ sum_at sizes places +ℤ size_at sizes k
+sum_push sizes [] k = omega (arith, ints)
+sum_push sizes (p ∷ places) k = omega (arith, ints, sum_push sizes places k)
+
+pub sum_more : (sizes : List ℤ) (places : List ℕ) (i : ℕ) → i < length places
+    → sum_at sizes (take (i + 1) places) ≡ sum_at sizes (take i places) +ℤ size_at sizes (get_or places i 0)
+sum_more sizes places i lt = ap (sum_at sizes) (take_more places i 0 lt) ∙ sum_push sizes (take i places) (get_or places i 0)
+
+-- a small number is within the limits on both sides
+pub small_sides : (z : ℤ) → unsigned_abs z ≤ most_total → (neg_ℤ (pos most_total) ≤ℤ z) × (z ≤ℤ pos most_total)
+small_sides (pos n) small = (omega (arith, ints, small), omega (arith, ints, small))
+small_sides (negsuc n) small = (omega (arith, ints, small), omega (arith, ints, small))
+
+pub either_sides : (b : Bool) (z : ℤ) → unsigned_abs z ≤ most_total → (neg_ℤ (pos most_total) ≤ℤ cond b z (pos 0)) × (cond b z (pos 0) ≤ℤ pos most_total)
+either_sides true z small = small_sides z small
+either_sides false z small = small_sides (pos 0) (omega arith)

@@ -1,0 +1,5 @@
+//! Tests of `peak_bounds`, over its public functions.
+#![tactic(auto)]
+
+#[cfg(test)]
+mod tests;
