@@ -7,3 +7,4 @@ pub mod JoinedStates
 pub mod WovenJoins
 pub mod SameLeast
 pub mod JoinCode
+pub mod PlainJoins

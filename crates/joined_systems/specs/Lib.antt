@@ -1,3 +1,4 @@
 pub mod Joins
 pub mod Joined
 pub mod Samples
+pub mod Few
