@@ -11,7 +11,7 @@ use Rattle.joined_systems.specs.Joins.{AreJoins, AreSafeJoins, join_of, tasks_of
 
 -- ---- the tasks of a join
 
-numbers_cons : (j : ℕ) (joins : List ℕ) (first k : ℕ)
+pub numbers_cons : (j : ℕ) (joins : List ℕ) (first k : ℕ)
     → numbers_with (j ∷ joins) first k ≡ cond (eqb j k) (first ∷ []) [] ++ numbers_with joins (first + 1) k
 numbers_cons j joins first k = elim (cases_Bool (eqb j k)) [ inl here ↦ rw here refl | inr other ↦ rw other refl ]
 

@@ -8,3 +8,4 @@ pub mod WovenJoins
 pub mod SameLeast
 pub mod JoinCode
 pub mod PlainJoins
+pub mod KindSteps

@@ -2,3 +2,4 @@ pub mod Joins
 pub mod Joined
 pub mod Samples
 pub mod Few
+pub mod Kinds

@@ -8,6 +8,7 @@
 pub mod laws;
 
 mod building;
+mod kinds;
 
 use std::alloc::AllocError;
 

@@ -1,0 +1,3 @@
+//! Which tasks need a join, and the joins' numbers.
+
+ghost use Rattle.std.specs.Prelude.{◌≡◌, ◌≢◌, ℕ, ◌×◌, ◌+◌, ◌-◌, ◌<◌, ◌≤◌, ◌^◌, ◌↔◌, All, IfOk, IsTrue, length, slice_index, true};
