@@ -1,13 +1,13 @@
 -- How kinds part, and who meets in two lists.
 use Rattle.std.proofs.Common.{◌≡◌, ℕ, zero, suc, ◌+◌, ◌-◌, ◌<◌, ◌≤◌, Bool, true, false, cond, ◌&&◌, ◌||◌, eqb, List, [], ◌∷◌, ◌++◌, length, get_or}
-use Rattle.std.proofs.Common.{map, length-append, append_assoc, refl, sym, ap, subst, ◌∙◌, arith, inl, inr, below_more}
+use Rattle.std.proofs.Common.{map, set, ◌≢◌, length-append, append_assoc, refl, sym, ap, subst, ◌∙◌, arith, inl, inr, below_more}
 use Rattle.std.specs.Prelude.{All, ◌↔◌, slice_index, replicate, unwrap_or, Option, Some, None}
 use Rattle.std.specs.List.{list_any, flat_map}
-use Rattle.std.proofs.lemmas.List.{get_or-append_right}
+use Rattle.std.proofs.lemmas.List.{get_or-append_right, get_or_append_left, get_or-set_same, get_or-set_other}
 use Rattle.std.proofs.lemmas.List.Elements.{All-nil, All-cons, All-append, All-weaker, All-head, All-tail}
-use Rattle.std.proofs.lemmas.Bool.{cases_Bool, cases_lt, ne_eqb}
+use Rattle.std.proofs.lemmas.Bool.{cases_Bool, cases_lt, cases_eq, ne_eqb}
 use Rattle.row_table.specs.Rows.{has, numbers_with}
-use Rattle.joined_systems.specs.Kinds.{meet, AreParts, ArePartedBy}
+use Rattle.joined_systems.specs.Kinds.{meet, AreParts, ArePartedBy, AreFirsts, AreLeaders}
 use Rattle.joined_systems.proofs.JoinNumbers.{numbers_cons}
 
 -- ---- kinds
@@ -114,3 +114,127 @@ none_past (f ∷ fs) (t ∷ ts) m u w within le =
     no : (b : Bool) → ((b && false) || false) ≡ false
     no true = refl
     no false = refl
+
+-- ---- the first task of each kind
+
+pub record Firsts (kinds firsts leaders : List ℕ) (v : ℕ) : Type 0 where
+  pub len : length leaders ≡ v - 1
+  pub told : (k : ℕ) → get_or firsts k 0 ≢ 0 → (get_or firsts k 0 < v) × (get_or kinds (get_or firsts k 0) 0 ≡ k)
+  pub each : (i : ℕ) → i < v - 1 → (get_or leaders i 0 ≡ get_or firsts (get_or kinds (i + 1) 0) 0)
+      × (1 ≤ get_or leaders i 0) × (get_or leaders i 0 ≤ i + 1)
+
+module _ (kinds firsts leaders : List ℕ) (v kind : ℕ) (some : 1 ≤ v) (here : kind ≡ get_or kinds v 0) (are : Firsts kinds firsts leaders v) where
+  last_at : (x i : ℕ) → i ≡ v - 1 → get_or (leaders ++ x ∷ []) i 0 ≡ x
+  last_at x i is =
+      let zero_is : i - (v - 1) ≡ 0 = omega (arith, is) in
+      get_or-append_right leaders (x ∷ []) (v - 1) i 0 are.len (omega (arith, is)) ∙ ap (λ (k : ℕ). get_or (x ∷ []) k 0) zero_is
+
+  before_last : (x i : ℕ) → i < v - 1 → get_or (leaders ++ x ∷ []) i 0 ≡ get_or leaders i 0
+  before_last x i lt = get_or_append_left leaders (x ∷ []) 0 i (omega (arith, are.len))
+
+  long : (x : ℕ) → length (leaders ++ x ∷ []) ≡ v + 1 - 1
+  long x = omega (arith, length-append leaders (x ∷ []), are.len)
+
+  kind_at : (i : ℕ) → i ≡ v - 1 → get_or kinds (i + 1) 0 ≡ kind
+  kind_at i is = let next : i + 1 ≡ v = omega (arith, is) in ap (λ (w : ℕ). get_or kinds w 0) next ∙ sym here
+
+  pub first_kept : get_or firsts kind 0 ≢ 0 → Firsts kinds firsts (leaders ++ get_or firsts kind 0 ∷ []) (v + 1)
+  first_kept there = record {
+    len = long (get_or firsts kind 0);
+    told = λ k e. (omega (arith, (are.told k e).0), (are.told k e).1);
+    each = λ i lt. elim (cases_lt i (v - 1)) [
+      | inl before ↦ (
+        before_last (get_or firsts kind 0) i before ∙ (are.each i before).0,
+        omega (arith, before_last (get_or firsts kind 0) i before, (are.each i before).1),
+        omega (arith, before_last (get_or firsts kind 0) i before, (are.each i before).2),
+      )
+      | inr last ↦ (
+          let is : i ≡ v - 1 = omega (arith, lt, last) in
+          let value = last_at (get_or firsts kind 0) i is in
+          (
+            value ∙ ap (λ (k : ℕ). get_or firsts k 0) (sym (kind_at i is)),
+            omega (arith, value, there),
+            omega (arith, value, (are.told kind there).0, is, some),
+          )
+          )
+    ];
+  }
+
+  pub first_new : get_or firsts kind 0 ≡ 0 → kind < length firsts → Firsts kinds (set firsts kind v) (leaders ++ get_or (set firsts kind v) kind 0 ∷ []) (v + 1)
+  first_new none room =
+      let own : get_or (set firsts kind v) kind 0 ≡ v = get_or-set_same firsts kind v 0 room in
+      let others : (k : ℕ) → (k ≡ kind → ⊥) → get_or (set firsts kind v) k 0 ≡ get_or firsts k 0 =
+      λ k other. get_or-set_other firsts kind k v 0 other in
+      record {
+        len = long (get_or (set firsts kind v) kind 0);
+        told = λ k e. elim (cases_eq k kind) [
+          | inl same ↦ (
+              let value : get_or (set firsts kind v) k 0 ≡ v = ap (λ (w : ℕ). get_or (set firsts kind v) w 0) same ∙ own in
+              (omega (arith, value), ap (λ (w : ℕ). get_or kinds w 0) value ∙ sym here ∙ sym same)
+              )
+          | inr other ↦ (
+              let value = others k other in
+              let old = are.told k (λ zero_is. e (value ∙ zero_is)) in
+              (omega (arith, value, old.0), ap (λ (w : ℕ). get_or kinds w 0) value ∙ old.1)
+              )
+        ];
+        each = λ i lt. elim (cases_lt i (v - 1)) [
+          | inl before ↦ (
+              let x = get_or (set firsts kind v) kind 0 in
+              let old = are.each i before in
+              let apart : get_or kinds (i + 1) 0 ≡ kind → ⊥ =
+              λ same. (let value = ap (λ (k : ℕ). get_or firsts k 0) same in omega (arith, value, none, old.0, old.1)) in
+              (
+                before_last x i before ∙ old.0 ∙ sym (others (get_or kinds (i + 1) 0) apart),
+                omega (arith, before_last x i before, old.1),
+                omega (arith, before_last x i before, old.2),
+              )
+              )
+          | inr last ↦ (
+              let is : i ≡ v - 1 = omega (arith, lt, last) in
+              let value = last_at (get_or (set firsts kind v) kind 0) i is in
+              (
+                value ∙ ap (λ (k : ℕ). get_or (set firsts kind v) k 0) (sym (kind_at i is)),
+                omega (arith, value, own, some),
+                omega (arith, value, own, is, some),
+              )
+              )
+        ];
+      }
+
+pub firsts_done : (kinds firsts leaders : List ℕ) (v : ℕ) → Firsts kinds firsts leaders v → v ≡ length kinds → AreFirsts kinds leaders
+firsts_done kinds firsts leaders v are is = record {
+  len = omega (arith, are.len, is);
+  low = λ i lt. (let here = are.each i (omega (arith, lt, are.len)) in (here.1, here.2));
+  kind = λ i lt. (
+      let here = are.each i (omega (arith, lt, are.len)) in
+      let there = are.told (get_or kinds (i + 1) 0) (λ none. omega (arith, none, here.0, here.1)) in
+      ap (λ (w : ℕ). get_or kinds w 0) here.0 ∙ there.1
+      );
+  one = λ i j one two e. (are.each i (omega (arith, one, are.len))).0 ∙ ap (λ (k : ℕ). get_or firsts k 0) e
+      ∙ sym ((are.each j (omega (arith, two, are.len))).0);
+}
+
+-- tasks of the same kind have the same first task
+pub leaders_are : (supplies : ℕ → ℕ → Bool) (n : ℕ) (kinds leaders : List ℕ) → AreFirsts kinds leaders → length kinds ≡ n + 1
+    → ((u v : ℕ) → ((get_or kinds u 0 ≡ get_or kinds v 0) ↔ ((w : ℕ) → supplies u w ≡ supplies v w))) → AreLeaders supplies n leaders
+leaders_are supplies n kinds leaders are long same =
+    let back : (v : ℕ) → 1 ≤ v → v - 1 + 1 ≡ v = λ v some. omega (arith, some) in
+    let kind_is : (v : ℕ) → 1 ≤ v → v ≤ n → get_or kinds (get_or leaders (v - 1) 0) 0 ≡ get_or kinds v 0 =
+    λ v some le. are.kind (v - 1) (omega (arith, are.len, long, some, le)) ∙ ap (λ (w : ℕ). get_or kinds w 0) (back v some) in
+    let one : (u v : ℕ) → 1 ≤ u → u ≤ n → 1 ≤ v → v ≤ n → get_or kinds u 0 ≡ get_or kinds v 0
+    → get_or leaders (u - 1) 0 ≡ get_or leaders (v - 1) 0 =
+    λ u v some_u le_u some_v le_v e. are.one (u - 1) (v - 1) (omega (arith, are.len, long, some_u, le_u)) (omega (arith, are.len, long, some_v, le_v))
+    (ap (λ (w : ℕ). get_or kinds w 0) (back u some_u) ∙ e ∙ sym (ap (λ (w : ℕ). get_or kinds w 0) (back v some_v))) in
+    record {
+      len = omega (arith, are.len, long);
+      low = λ v some le. (let low = are.low (v - 1) (omega (arith, are.len, long, some, le)) in (low.0, omega (arith, low.1, some)));
+      own = λ v some le. (
+          let low = are.low (v - 1) (omega (arith, are.len, long, some, le)) in
+          one (get_or leaders (v - 1) 0) v low.0 (omega (arith, low.1, some, le)) some le (kind_is v some le)
+          );
+      same = λ u v some_u le_u some_v le_v. (
+        λ e. (same u v).0 (sym (kind_is u some_u le_u) ∙ ap (λ (w : ℕ). get_or kinds w 0) e ∙ kind_is v some_v le_v),
+        λ each. one u v some_u le_u some_v le_v ((same u v).1 each),
+      );
+    }

@@ -4,7 +4,7 @@
 ghost use Rattle.std.specs.Prelude.{◌≡◌, ℕ, ◌+◌, ◌-◌, ◌<◌, ◌≤◌, ◌^◌, ◌++◌, ◌↔◌, All, IfOk, OnOk, map, length, slice_index, replicate};
 ghost use Rattle.row_table.specs.Rows.{has, row_at, numbers_with};
 ghost use Rattle.joined_systems.specs.Kinds as specs;
-ghost use Rattle.joined_systems.specs.Kinds.{meet, AreParts, ArePartedBy};
+ghost use Rattle.joined_systems.specs.Kinds.{meet, AreParts, ArePartedBy, AreFirsts, AreLeaders};
 
 use crate::NoMemory;
 use row_table::RowTable;
@@ -89,20 +89,21 @@ fn part_makers(
     Ok(())
 }
 
-// The kind of each task, and of 0: two are of the same kind where they supply the same tasks.
+// The kind of each task, and of 0, and a number above all kinds: two are of the same kind where they supply the same tasks.
 fn kinds_of(
     alloc: Global,
     count: usize,
     makers: &[u32],
     takers: &[u32],
-) -> Result<Vec<usize>, NoMemory>
+) -> Result<(Vec<usize>, usize), NoMemory>
     requires few { count < 2 ^ 32 - 1 }
     requires uses { length makers.now < 2 ^ 32 }
     requires same { length makers.now ≡ length takers.now }
     requires makers { All (λ u. u < count + 1) makers.now }
     requires takers { All (λ u. u < count + 1) takers.now }
-    ensures len { IfOk result (λ kinds. length kinds.items ≡ count + 1) }
-    ensures kinds { IfOk result (λ kinds. (u v : ℕ) → ((slice_index kinds.items u ≡ slice_index kinds.items v)
+    ensures len { IfOk result (λ made. length made.0.items ≡ count + 1) }
+    ensures small { IfOk result (λ made. (u : ℕ) → slice_index made.0.items u < made.1) }
+    ensures kinds { IfOk result (λ made. (u v : ℕ) → ((slice_index made.0.items u ≡ slice_index made.0.items v)
         ↔ ((w : ℕ) → meet makers.now takers.now u w ≡ meet makers.now takers.now v w))) }
 {
     let rows = RowTable::group(alloc, takers, count as u32 + 1, 0)?;
@@ -111,5 +112,43 @@ fn kinds_of(
     for w in 0..count as u32 + 1 {
         part_makers(&mut kinds, &mut parts, makers, rows.row(w))?;
     }
-    Ok(kinds)
+    let most = parts.len();
+    Ok((kinds, most))
+}
+
+// The first task of the kind of each task.
+fn leaders_by(alloc: Global, kinds: &[usize], most: usize) -> Result<Vec<u32>, NoMemory>
+    requires some { 1 ≤ length kinds.now }
+    requires few { length kinds.now < 2 ^ 32 }
+    requires small { (u : ℕ) → slice_index kinds.now u < most }
+    ensures { IfOk result (λ leaders. AreFirsts kinds.now leaders.items) }
+{
+    let mut firsts: Vec<u32> = vec![in alloc; 0; most]?;
+    let mut leaders = Vec::new(alloc);
+    for v in 1..kinds.len() {
+        let kind = kinds[v];
+        if firsts[kind] == 0 {
+            firsts[kind] = v as u32;
+        }
+        leaders.push(firsts[kind])?;
+    }
+    Ok(leaders)
+}
+
+/// For each task the first one that has the same readers.
+pub fn leaders_of(
+    alloc: Global,
+    count: usize,
+    makers: &[u32],
+    takers: &[u32],
+) -> Result<Vec<u32>, NoMemory>
+    requires few { count < 2 ^ 32 - 1 }
+    requires uses { length makers.now < 2 ^ 32 }
+    requires same { length makers.now ≡ length takers.now }
+    requires makers { All (λ u. u < count + 1) makers.now }
+    requires takers { All (λ u. u < count + 1) takers.now }
+    ensures { IfOk result (λ leaders. AreLeaders (meet makers.now takers.now) count leaders.items) }
+{
+    let (kinds, most) = kinds_of(alloc, count, makers, takers)?;
+    leaders_by(alloc, &kinds, most)
 }
