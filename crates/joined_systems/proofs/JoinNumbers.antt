@@ -58,7 +58,7 @@ join-le [] i = omega arith
 join-le (j ∷ joins) zero = omega arith
 join-le (j ∷ joins) (suc i) = omega (arith, join-le joins i)
 
-count-push : (joins : List ℕ) (j : ℕ) → join_count (joins ++ j ∷ []) ≡ max (join_count joins) j
+pub count-push : (joins : List ℕ) (j : ℕ) → join_count (joins ++ j ∷ []) ≡ max (join_count joins) j
 count-push [] j = omega arith
 count-push (i ∷ joins) j = omega (arith, count-push joins j)
 

@@ -9,3 +9,5 @@ pub mod SameLeast
 pub mod JoinCode
 pub mod PlainJoins
 pub mod KindSteps
+pub mod Numbering
+pub mod Marks

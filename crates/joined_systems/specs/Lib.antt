@@ -3,3 +3,4 @@ pub mod Joined
 pub mod Samples
 pub mod Few
 pub mod Kinds
+pub mod Needs

@@ -9,6 +9,7 @@ pub mod laws;
 
 mod building;
 mod kinds;
+mod needs;
 
 use std::alloc::AllocError;
 
