@@ -1,8 +1,8 @@
 -- No public clause names this.
 -- What tells that a task needs a join, by the first task with the same readers as each.
-use Rattle.std.specs.Prelude.{◌≡◌, ◌≢◌, ◌↔◌, ℕ, ◌+◌, ◌-◌, ◌<◌, ◌≤◌, Bool, true, false, List, length, take, slice_index}
+use Rattle.std.specs.Prelude.{◌≡◌, ◌≢◌, ◌↔◌, ◌⊎◌, ℕ, ◌+◌, ◌-◌, ◌<◌, ◌≤◌, Bool, true, false, List, length, map, take, slice_index}
 use Rattle.std.specs.Prelude.{slice_index_or}
-use Rattle.row_table.specs.Rows.{has, numbers_with}
+use Rattle.row_table.specs.Rows.{has, row_at, numbers_with}
 use Rattle.shared_systems.specs.Shared.{SharedTaskSystem, SharedItem, HasTask, shared_item_at}
 use Rattle.joined_systems.specs.Joins.{NeedsJoin, HaveSameReaders, join_of, join_count}
 
@@ -28,3 +28,9 @@ pub record AreNumbers (leaders : List ℕ) (needs : List Bool) (joins : List ℕ
   pub same : (i j : ℕ) → i < length joins → j < length joins → slice_index joins i ≢ 0 → slice_index joins j ≢ 0
       → ((slice_index joins i ≡ slice_index joins j) ↔ (slice_index leaders i ≡ slice_index leaders j))
   pub counted : (i : ℕ) → i < length joins → slice_index joins i ≤ join_count (take i joins) + 1
+
+-- task v needs a join, as rows tell: those of the tasks of each leader, and those of the uses of what each task makes
+abbrev pub TellsNeed : List (List ℕ) → List Bool → List (List ℕ) → List ℕ → ℕ → ℕ → Type 0
+TellsNeed rows released uses takers leader v =
+    ((slice_index_or released leader false ≡ true) × (1 ≤ length (row_at uses v)))
+    ⊎ ((2 ≤ length (row_at rows leader)) × HasTwo (map (slice_index takers) (row_at uses v)))

@@ -8,7 +8,7 @@ ghost use Rattle.shared_systems.specs.Shared.{HasTask};
 ghost use Rattle.shared_systems.specs.Bounds.{IsSharedItemWithin};
 ghost use Rattle.joined_systems.specs.Joins.{AreJoins, HaveSameReaders, NeedsJoin};
 ghost use Rattle.joined_systems.specs.Kinds.{meet, AreLeaders, makers, takers};
-ghost use Rattle.joined_systems.specs.Needs.{HasTwo, IsReadByAll, AreNumbers};
+ghost use Rattle.joined_systems.specs.Needs.{HasTwo, IsReadByAll, AreNumbers, TellsNeed};
 
 use crate::NoMemory;
 use crate::kinds::{leaders_of, makers_of, takers_of};
@@ -83,4 +83,69 @@ fn numbers_of(alloc: Global, leaders: &[u32], needs: &[bool]) -> Result<Vec<u32>
         }
     }
     Ok(joins)
+}
+
+// Whether a task needs a join, as rows tell it.
+fn need_of(
+    rows: &RowTable,
+    released: &[bool],
+    uses: &RowTable,
+    takers: &[u32],
+    leader: u32,
+    task: u32,
+) -> bool
+    requires rows { leader < length rows.now }
+    requires released { leader < length released.now }
+    requires uses { task < length uses.now }
+    requires takers { All (λ p. p < length takers.now) (row_at uses.now task) }
+    ensures { IsTrue result ↔ TellsNeed rows.now released.now uses.now takers.now leader task }
+{
+    let row = uses.row(task);
+    if released[leader as usize] && !row.is_empty() {
+        return true;
+    }
+    rows.row(leader).len() >= 2 && has_two(takers, row)
+}
+
+// Whether each task needs a join.
+fn needs_of(
+    alloc: Global,
+    leaders: &[u32],
+    rows: &RowTable,
+    released: &[bool],
+    uses: &RowTable,
+    takers: &[u32],
+) -> Result<Vec<bool>, NoMemory>
+    requires few { length leaders.now ≤ most_tasks }
+    requires rows { (i : ℕ) → slice_index leaders.now i < length rows.now }
+    requires released { (i : ℕ) → slice_index leaders.now i < length released.now }
+    requires uses { length uses.now ≡ length leaders.now + 1 }
+    requires takers { (k : ℕ) → k < length uses.now → All (λ p. p < length takers.now) (row_at uses.now k) }
+    ensures len { IfOk result (λ needs. length needs.items ≡ length leaders.now) }
+    ensures needs { IfOk result (λ needs. (i : ℕ) → i < length leaders.now → ((slice_index_or needs.items i false ≡ true)
+        ↔ TellsNeed rows.now released.now uses.now takers.now (slice_index leaders.now i) (i + 1))) }
+{
+    let mut needs = Vec::with_capacity(alloc, leaders.len())?;
+    for i in 0..leaders.len() {
+        let need = need_of(rows, released, uses, takers, leaders[i], i as u32 + 1);
+        needs.push(need)?;
+    }
+    Ok(needs)
+}
+
+/// The numbers of the joins after the tasks. Linear in the tasks, the items and the readers of all items.
+pub fn joins_of(alloc: Global, system: &SharedSystem) -> Result<Vec<u32>, NoMemory>
+    ensures { IfOk result (λ joins. AreJoins system.now joins.items) }
+{
+    system.keeps();
+    let items = system.items();
+    let count = system.tasks().len();
+    let makers = makers_of(alloc, items)?;
+    let takers = takers_of(alloc, items)?;
+    let leaders = leaders_of(alloc, count, &makers, &takers)?;
+    let rows = RowTable::group(alloc, &leaders, count as u32 + 1, 1)?;
+    let uses = RowTable::group(alloc, &makers, count as u32 + 1, 0)?;
+    let released = released_of(alloc, items, &leaders, &rows)?;
+    let needs = needs_of(alloc, &leaders, &rows, &released, &uses, &takers)?;
+    numbers_of(alloc, &leaders, &needs)
 }
