@@ -90,3 +90,16 @@ safe system joins are = record {
       (there.0 + 1, ((omega arith, omega (arith, there.1.0, are.len)), ap (λ (i : ℕ). get_or joins i 0) place ∙ there.1.1))
       );
 }
+
+-- there are no more joins than tasks
+pub few_joins : (system : SharedTaskSystem) (joins : List ℕ) → AreJoins system joins → join_count joins ≤ length joins
+few_joins system joins are =
+    let all : take (length joins) joins ≡ joins = take_all (length joins) joins (omega arith) in
+    omega (arith, up_to (length joins) (omega arith), ap join_count all)
+  where
+    up_to : (m : ℕ) → m ≤ length joins → join_count (take m joins) ≤ m
+    up_to zero le = omega arith
+    up_to (suc m) le =
+        let next : suc m ≡ m + 1 = omega arith in
+        let here = ap (λ (i : ℕ). join_count (take i joins)) next in
+        omega (arith, here, count_more joins m (omega arith), are.counted m (omega arith), up_to m (omega arith))

@@ -11,3 +11,6 @@ pub mod PlainJoins
 pub mod KindSteps
 pub mod Numbering
 pub mod Marks
+pub mod UsesMeet
+pub mod RisingLists
+pub mod NeedsFound

@@ -7,7 +7,10 @@ ghost use Rattle.graphs.specs.Graph.{IsAmong};
 ghost use Rattle.shared_systems.specs.Shared.{HasTask};
 ghost use Rattle.shared_systems.specs.Bounds.{IsSharedItemWithin};
 ghost use Rattle.joined_systems.specs.Joins.{AreJoins, HaveSameReaders, NeedsJoin};
-ghost use Rattle.joined_systems.specs.Kinds.{meet, AreLeaders, makers, takers};
+ghost use Rattle.joined_systems.specs.Kinds as specs;
+ghost use Rattle.joined_systems.specs.Kinds.{meet, AreLeaders};
+ghost use Rattle.mp_system.specs.declared.system.Task.{Task};
+ghost use Rattle.std.specs.Prelude.{List};
 ghost use Rattle.joined_systems.specs.Needs.{HasTwo, IsReadByAll, AreNumbers, TellsNeed};
 
 use crate::NoMemory;
@@ -133,19 +136,40 @@ fn needs_of(
     Ok(needs)
 }
 
+// The numbers of the joins, by the producer and the reader of each use, and the first task with the same readers as each.
+fn joins_by(
+    alloc: Global,
+    items: &SharedItems,
+    leaders: &[u32],
+    makers: &[u32],
+    takers: &[u32],
+) -> Result<Vec<u32>, NoMemory>
+    requires few { length leaders.now ≤ most_tasks }
+    requires uses { length takers.now < 2 ^ 32 }
+    requires within { All (IsSharedItemWithin (length leaders.now)) items.now }
+    requires leaders { AreLeaders (meet makers.now takers.now) (length leaders.now) leaders.now }
+    requires makers { makers.now ≡ specs.makers items.now }
+    requires takers { takers.now ≡ specs.takers items.now }
+    ensures { IfOk result (λ joins. (tasks : List Task) → length tasks ≡ length leaders.now →
+        AreJoins (record { tasks = tasks; items = items.now }) joins.items) }
+{
+    let count = leaders.len() as u32;
+    let rows = RowTable::group(alloc, leaders, count + 1, 1)?;
+    let uses = RowTable::group(alloc, makers, count + 1, 0)?;
+    let released = released_of(alloc, items, leaders, &rows)?;
+    let needs = needs_of(alloc, leaders, &rows, &released, &uses, takers)?;
+    let joins = numbers_of(alloc, leaders, &needs)?;
+    Ok(joins)
+}
+
 /// The numbers of the joins after the tasks. Linear in the tasks, the items and the readers of all items.
 pub fn joins_of(alloc: Global, system: &SharedSystem) -> Result<Vec<u32>, NoMemory>
     ensures { IfOk result (λ joins. AreJoins system.now joins.items) }
 {
     system.keeps();
     let items = system.items();
-    let count = system.tasks().len();
     let makers = makers_of(alloc, items)?;
     let takers = takers_of(alloc, items)?;
-    let leaders = leaders_of(alloc, count, &makers, &takers)?;
-    let rows = RowTable::group(alloc, &leaders, count as u32 + 1, 1)?;
-    let uses = RowTable::group(alloc, &makers, count as u32 + 1, 0)?;
-    let released = released_of(alloc, items, &leaders, &rows)?;
-    let needs = needs_of(alloc, &leaders, &rows, &released, &uses, &takers)?;
-    numbers_of(alloc, &leaders, &needs)
+    let leaders = leaders_of(alloc, system.tasks().len(), &makers, &takers)?;
+    joins_by(alloc, items, &leaders, &makers, &takers)
 }
