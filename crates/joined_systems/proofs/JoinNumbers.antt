@@ -11,7 +11,7 @@ use Rattle.joined_systems.specs.Joins.{AreJoins, AreSafeJoins, join_of, tasks_of
 
 -- ---- the tasks of a join
 
-numbers_cons : (j : ℕ) (joins : List ℕ) (first k : ℕ)
+pub numbers_cons : (j : ℕ) (joins : List ℕ) (first k : ℕ)
     → numbers_with (j ∷ joins) first k ≡ cond (eqb j k) (first ∷ []) [] ++ numbers_with joins (first + 1) k
 numbers_cons j joins first k = elim (cases_Bool (eqb j k)) [ inl here ↦ rw here refl | inr other ↦ rw other refl ]
 
@@ -58,7 +58,7 @@ join-le [] i = omega arith
 join-le (j ∷ joins) zero = omega arith
 join-le (j ∷ joins) (suc i) = omega (arith, join-le joins i)
 
-count-push : (joins : List ℕ) (j : ℕ) → join_count (joins ++ j ∷ []) ≡ max (join_count joins) j
+pub count-push : (joins : List ℕ) (j : ℕ) → join_count (joins ++ j ∷ []) ≡ max (join_count joins) j
 count-push [] j = omega arith
 count-push (i ∷ joins) j = omega (arith, count-push joins j)
 
@@ -90,3 +90,16 @@ safe system joins are = record {
       (there.0 + 1, ((omega arith, omega (arith, there.1.0, are.len)), ap (λ (i : ℕ). get_or joins i 0) place ∙ there.1.1))
       );
 }
+
+-- there are no more joins than tasks
+pub few_joins : (system : SharedTaskSystem) (joins : List ℕ) → AreJoins system joins → join_count joins ≤ length joins
+few_joins system joins are =
+    let all : take (length joins) joins ≡ joins = take_all (length joins) joins (omega arith) in
+    omega (arith, up_to (length joins) (omega arith), ap join_count all)
+  where
+    up_to : (m : ℕ) → m ≤ length joins → join_count (take m joins) ≤ m
+    up_to zero le = omega arith
+    up_to (suc m) le =
+        let next : suc m ≡ m + 1 = omega arith in
+        let here = ap (λ (i : ℕ). join_count (take i joins)) next in
+        omega (arith, here, count_more joins m (omega arith), are.counted m (omega arith), up_to m (omega arith))

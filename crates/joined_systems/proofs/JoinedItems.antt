@@ -64,7 +64,7 @@ pub alone_released : (n v : ℕ) (joins : List ℕ) (size : ℕ) (from : Option 
     ≡ shared_size_if (is_read_by_alone v) (item size from to)
 alone_released n v joins size from to = ap (λ (b : Bool). cond b size 0) (only_same n v joins to)
 
-no_join : (n k : ℕ) (from : Option ℕ) → 1 ≤ k → ForSome from (IsAmong n) → is_named from (n + k) ≡ false
+pub no_join : (n k : ℕ) (from : Option ℕ) → 1 ≤ k → ForSome from (IsAmong n) → is_named from (n + k) ≡ false
 no_join n k None some within = refl
 no_join n k (Some u) some within = (let task = within u refl in ne_eqb u (n + k) (λ e. omega arith))
 

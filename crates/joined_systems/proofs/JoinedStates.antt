@@ -29,15 +29,15 @@ all_of joins done k = list_all done (tasks_of joins k)
 
 -- ---- the joins of an item
 
-record Between (joins : List ℕ) (from : Option ℕ) (to : List ℕ) : Type 0 where
-  producer : ℕ
-  reader : ℕ
-  others : List ℕ
-  from_is : from ≡ Some producer
-  to_is : to ≡ reader ∷ others
-  join_is : join_between joins from to ≡ join_of joins producer
+pub record Between (joins : List ℕ) (from : Option ℕ) (to : List ℕ) : Type 0 where
+  pub producer : ℕ
+  pub reader : ℕ
+  pub others : List ℕ
+  pub from_is : from ≡ Some producer
+  pub to_is : to ≡ reader ∷ others
+  pub join_is : join_between joins from to ≡ join_of joins producer
 
-between : (joins : List ℕ) (from : Option ℕ) (to : List ℕ) → 1 ≤ join_between joins from to → Between joins from to
+pub between : (joins : List ℕ) (from : Option ℕ) (to : List ℕ) → 1 ≤ join_between joins from to → Between joins from to
 between joins None to some = absurd (omega arith)
 between joins (Some u) [] some = absurd (omega arith)
 between joins (Some u) (c ∷ cs) some = record {
@@ -49,14 +49,14 @@ between joins (Some u) (c ∷ cs) some = record {
   join_is = refl;
 }
 
-record After (joins to : List ℕ) : Type 0 where
-  reader : ℕ
-  others : List ℕ
-  to_is : to ≡ reader ∷ others
-  join_is : join_after joins to ≡ join_of joins reader
-  tasks_are : to ≡ tasks_of joins (join_after joins to)
+pub record After (joins to : List ℕ) : Type 0 where
+  pub reader : ℕ
+  pub others : List ℕ
+  pub to_is : to ≡ reader ∷ others
+  pub join_is : join_after joins to ≡ join_of joins reader
+  pub tasks_are : to ≡ tasks_of joins (join_after joins to)
 
-after : (joins to : List ℕ) → 1 ≤ join_after joins to → After joins to
+pub after : (joins to : List ℕ) → 1 ≤ join_after joins to → After joins to
 after joins [] some = absurd (omega arith)
 after joins (c ∷ []) some = absurd (omega arith)
 after joins (c ∷ d ∷ cs) some = elim (cases_Bool (bytes_eq (c ∷ d ∷ cs) (tasks_of joins (join_of joins c)))) [

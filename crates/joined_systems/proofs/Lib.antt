@@ -7,3 +7,10 @@ pub mod JoinedStates
 pub mod WovenJoins
 pub mod SameLeast
 pub mod JoinCode
+pub mod PlainJoins
+pub mod KindSteps
+pub mod Numbering
+pub mod Marks
+pub mod UsesMeet
+pub mod RisingLists
+pub mod NeedsFound

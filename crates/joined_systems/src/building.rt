@@ -15,14 +15,15 @@ ghost use Rattle.joined_systems.specs.Joined.{join_task, with_task, joined_item,
 ghost use Rattle.std.specs.Option.{ForSome};
 ghost use Rattle.limits.specs.Limits.{most_total, most_uses};
 ghost use Rattle.shared_systems.specs.Shared.{SharedItem};
-ghost use Rattle.std.specs.Prelude.{◌==◌};
+ghost use Rattle.std.specs.Prelude.{◌==◌, ◌↔◌, IsTrue};
+ghost use Rattle.joined_systems.specs.Few.{IsFew};
 
 use crate::NoMemory;
 use limits::{MOST_POSITIONS, MOST_TASKS, MOST_TOTAL, MOST_USES};
 use mp_system::Task;
 use row_table::RowTable;
 use shared_systems::{GrowingItems, SharedFault, SharedItems, SharedSystem, shared_system_of};
-use std::alloc::Global;
+use std::alloc::{AllocError, Global};
 
 // The join that the item at a place goes through; 0 for none.
 fn join_between(items: &SharedItems, joins: &[u32], i: usize) -> u32
@@ -244,4 +245,46 @@ fn uses_of(items: &SharedItems) -> u64
         total += items.readers(i).len() as u64;
     }
     total
+}
+
+// Whether there are as many tasks, items and readers as there may be, and all extras and sizes together are within the limit.
+fn is_few(tasks: &[Task], items: &SharedItems) -> bool
+    requires extras { sum_by extra_size tasks.now ≤ most_total }
+    requires sizes { sum_by shared_size items.now ≤ 2 * most_total }
+    requires uses { sum_by reader_count items.now < 2 ^ 32 }
+    ensures { IsTrue result ↔ IsFew (record { tasks = tasks.now; items = items.now }) }
+{
+    tasks.len() as u64 <= MOST_TASKS
+        && items.len() as u64 <= MOST_POSITIONS
+        && uses_of(items) <= MOST_USES
+        && extras_of(tasks) + sizes_of(items) <= MOST_TOTAL
+}
+
+/// The system with its joins, whose numbers stand in a list for the tasks that they come after; none where it is not within the limits.
+/// Linear in the tasks, the items and the readers of all items.
+pub fn joined_with(
+    alloc: Global,
+    system: &SharedSystem,
+    joins: &[u32],
+) -> Result<Option<SharedSystem>, NoMemory>
+    requires len { length joins.now ≡ length system.now.tasks }
+    requires small { join_count joins.now ≤ length joins.now }
+    ensures { IfOk result (λ made. MatchOption made (¬ IsSharedSystem (joined joins.now system.now))
+        (λ other. (other ≡ joined joins.now system.now) × IsSharedSystem (joined joins.now system.now))) }
+{
+    system.keeps();
+    let count = count_of(joins);
+    let rows = RowTable::group(alloc, joins, count + 1, 1)?;
+    let items = items_of(alloc, system.items(), joins, &rows)?;
+    let shares = shares_of(alloc, system.items(), joins, count)?;
+    let tasks = tasks_of(alloc, system.tasks(), &shares)?;
+    if !is_few(&tasks, &items) {
+        return Ok(None);
+    }
+    match shared_system_of(alloc, tasks, items) {
+        Ok(made) => Ok(Some(made)),
+        Err(SharedFault::Cycle(_)) => Ok(None),
+        Err(SharedFault::Share(_)) => Ok(None),
+        Err(SharedFault::NoMemory) => Err(AllocError),
+    }
 }

@@ -8,7 +8,11 @@
 pub mod laws;
 
 mod building;
+mod joined;
+mod kinds;
+mod needs;
 
+pub use joined::join_tasks;
 use std::alloc::AllocError;
 
 /// Want of memory: an allocation was refused.
