@@ -5,3 +5,5 @@ pub mod Orders
 pub mod AtMoment
 pub mod Within
 pub mod Steps
+pub mod Following
+pub mod AtBlockers

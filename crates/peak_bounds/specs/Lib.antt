@@ -1,2 +1,5 @@
+pub mod EventSets
+pub mod Evidence
 pub mod Moments
+pub mod Samples
 pub mod Steps

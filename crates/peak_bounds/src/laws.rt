@@ -5,6 +5,9 @@ ghost use Rattle.shared_systems.specs.SharedMemory.{shared_peak_of};
 ghost use Rattle.shared_systems.specs.SharedTraversal.{IsSharedTraversal, IsLeastShared};
 ghost use Rattle.peak_bounds.specs.Moments.{Moment, IsMoment, is_done, is_waiting, level_of};
 ghost use Rattle.peak_bounds.specs.Steps.{Starts, Step, AreSteps};
+ghost use Rattle.shared_systems.specs.Bounds.{IsSharedSystem};
+ghost use Rattle.peak_bounds.specs.declared.evidence.Evidence.{Evidence};
+ghost use Rattle.peak_bounds.specs.Evidence.{IsEvidence};
 
 /// What is marked at a moment is so, and the peak is at least its level.
 pub fn moment_law()
@@ -22,5 +25,15 @@ pub fn bound_law()
         AreSteps system steps bound → IsSharedTraversal system order → bound ≤ shared_peak_of system order }
     ensures least { (system : SharedTaskSystem) (steps : List Step) (order : List ℕ) →
         IsSharedTraversal system order → AreSteps system steps (shared_peak_of system order) →
+        IsLeastShared system (shared_peak_of system order) }
+{}
+
+/// No traversal has a peak below a bound for which there is evidence; so a traversal whose peak is such a bound has the least peak of the
+/// system.
+pub fn evidence_law()
+    ensures bound { (system : SharedTaskSystem) (evidence : Evidence) (bound : ℕ) (order : List ℕ) → IsSharedSystem system →
+        IsEvidence system evidence bound → IsSharedTraversal system order → bound ≤ shared_peak_of system order }
+    ensures least { (system : SharedTaskSystem) (evidence : Evidence) (order : List ℕ) → IsSharedSystem system →
+        IsSharedTraversal system order → IsEvidence system evidence (shared_peak_of system order) →
         IsLeastShared system (shared_peak_of system order) }
 {}
