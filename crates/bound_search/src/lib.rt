@@ -4,7 +4,9 @@
 //! effort counted in steps, and never by a clock.
 #![tactic(auto)]
 
+mod closure;
 mod effort;
+mod kept_flow;
 mod network;
 mod order;
 mod rows;
