@@ -6,6 +6,7 @@
 
 mod closure;
 mod effort;
+mod growth;
 mod kept_flow;
 mod network;
 mod order;
