@@ -14,11 +14,11 @@ pub struct Closure {
 }
 
 impl Closure {
-    /// Room for so many nodes.
+    /// No nodes yet, and room for so many.
     pub fn new(alloc: Global, nodes: u32) -> Result<Closure, NoMemory> {
         Ok(Closure {
             marks: vec![in alloc; 0; nodes as usize]?,
-            stamp: 0,
+            stamp: 1,
             members: Vec::new(alloc),
         })
     }

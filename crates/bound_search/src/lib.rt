@@ -8,11 +8,16 @@ mod closure;
 mod effort;
 mod growth;
 mod kept_flow;
+mod lowering;
 mod network;
 mod order;
 mod rows;
+mod search;
 mod tables;
+mod use_table;
+mod within;
 
+pub use search::find_bound;
 use std::alloc::AllocError;
 
 /// Want of memory: an allocation was refused.
