@@ -1,5 +1,5 @@
-//! The inside grows, from nothing, by each task that some closed set inside lets run within a bound. Where none is left, the tasks that are
-//! ready but blocked show a higher bound: the first of them to run needs the least of what each needs.
+//! The inside grows, from nothing, by each task that some closed set inside lets run within a bound. Where none is left, the
+//! tasks that are ready but blocked show a higher bound: the first of them to run needs the least of what each needs.
 
 use crate::NoMemory;
 use crate::closure::Closure;
@@ -174,7 +174,12 @@ impl Growth {
             let Some(node) = self.work.pop() else {
                 break;
             };
-            self.kept.spend(network.down(node).len().saturating_add(network.up(node).len()));
+            self.kept.spend(
+                network
+                    .down(node)
+                    .len()
+                    .saturating_add(network.up(node).len()),
+            );
             for arc in network.down(node) {
                 self.lower(network.head(*arc))?;
             }
@@ -225,7 +230,8 @@ impl Growth {
 
     // What the low set tells of all tasks that are ready.
     fn learn_all(&mut self, network: &Network, memory: i64) {
-        self.kept.spend(self.ready.len().saturating_add(self.blocked.len()));
+        self.kept
+            .spend(self.ready.len().saturating_add(self.blocked.len()));
         for k in 0..self.ready.len() {
             let task = number_at(&self.ready, count_of(k));
             self.learn(network, task, memory);
@@ -304,7 +310,8 @@ impl Growth {
                 blocked.push(*task)?;
             }
         }
-        self.kept.spend(self.ready.len().saturating_add(self.blocked.len()));
+        self.kept
+            .spend(self.ready.len().saturating_add(self.blocked.len()));
         self.ready = ready;
         self.blocked = blocked;
         Ok(())
@@ -338,7 +345,12 @@ impl Growth {
     }
 
     // Tests or takes in the ready tasks, the last first, with a sweep now and then.
-    fn take_ready(&mut self, alloc: Global, network: &Network, order: &[u32]) -> Result<(), NoMemory> {
+    fn take_ready(
+        &mut self,
+        alloc: Global,
+        network: &Network,
+        order: &[u32],
+    ) -> Result<(), NoMemory> {
         let mut taken: u32 = 0;
         for _ in 0..self.effort().left() {
             let Some(task) = self.ready.pop() else {
@@ -374,7 +386,10 @@ impl Growth {
             if self.effort().is_spent() {
                 break;
             }
-            if !self.kept.is_inside(task) && number_at(&self.tested, task) != self.count && self.test(network, task)? {
+            if !self.kept.is_inside(task)
+                && number_at(&self.tested, task) != self.count
+                && self.test(network, task)?
+            {
                 return Ok(true);
             }
         }
@@ -387,7 +402,9 @@ impl Growth {
         for k in 0..self.blocked.len() {
             let task = number_at(&self.blocked, count_of(k));
             let need = network.need(task);
-            let value = self.force(network, task, best.saturating_sub(need))?.saturating_add(need);
+            let value = self
+                .force(network, task, best.saturating_sub(need))?
+                .saturating_add(need);
             self.kept.back();
             if self.effort().is_spent() {
                 return Ok(MUCH);
@@ -398,9 +415,14 @@ impl Growth {
         Ok(best)
     }
 
-    /// Grows until no task can run within the bound. Whether there is a task left, so that the blocked tasks show the bound that is then told;
-    /// none if the effort is spent before.
-    pub fn grow(&mut self, alloc: Global, network: &Network, order: &[u32]) -> Result<bool, NoMemory> {
+    /// Grows until no task can run within the bound. Whether there is a task left, so that the blocked tasks show the bound that
+    /// is then told; none if the effort is spent before.
+    pub fn grow(
+        &mut self,
+        alloc: Global,
+        network: &Network,
+        order: &[u32],
+    ) -> Result<bool, NoMemory> {
         self.sweep(alloc, network, order)?;
         for _ in 0..self.effort().left() {
             self.take_ready(alloc, network, order)?;

@@ -1,14 +1,16 @@
 //! One flow that is kept while the inside grows: from nodes that take memory up to nodes before them that add to it.
 //!
-//! What a node takes up beyond what it adds flows down its arcs, each without a limit, into the rooms of nodes that add more than they take
-//! up. So far as all of it has found room, no closed set of nodes inside has less memory than there is at first; what has found none says how
-//! much less the least of them has. The nodes that come before a task are forced into that set: what flows into them is turned elsewhere, on
-//! top of the flow, and then taken back by a log.
+//! What a node takes up beyond what it adds flows down its arcs, each without a limit, into the rooms of nodes that add more than
+//! they take up. So far as all of it has found room, no closed set of nodes inside has less memory than there is at first; what
+//! has found none says how much less the least of them has. The nodes that come before a task are forced into that set: what
+//! flows into them is turned elsewhere, on top of the flow, and then taken back by a log.
 
 use crate::NoMemory;
 use crate::effort::Effort;
 use crate::network::Network;
-use crate::tables::{add_amount, amount_at, count_of, is_marked, mark, number_at, put_amount, put_number};
+use crate::tables::{
+    add_amount, amount_at, count_of, is_marked, mark, number_at, put_amount, put_number,
+};
 use std::alloc::Global;
 
 /// More than any amount, and so little that several of them fit.
@@ -17,8 +19,8 @@ pub const MUCH: i64 = 0x0fff_ffff_ffff_ffff;
 /// No arc.
 pub const NONE: u32 = u32::MAX;
 
-// A node on the path along which something is to be pushed: how much at most, by which arc it was reached and whether against it, and where
-// the search goes on.
+// A node on the path along which something is to be pushed: how much at most, by which arc it was reached and whether against it,
+// and where the search goes on.
 #[derive(Clone, Copy, Drop)]
 struct Visit {
     node: u32,
@@ -114,7 +116,11 @@ impl KeptFlow {
 
     fn add_flow(&mut self, arc: u32, amount: i64) -> Result<(), NoMemory> {
         if self.is_logged {
-            self.log.push(Change { place: arc, is_room: false, amount })?;
+            self.log.push(Change {
+                place: arc,
+                is_room: false,
+                amount,
+            })?;
         }
         add_amount(&mut self.flows, arc, amount);
         Ok(())
@@ -122,7 +128,11 @@ impl KeptFlow {
 
     fn add_room(&mut self, node: u32, amount: i64) -> Result<(), NoMemory> {
         if self.is_logged {
-            self.log.push(Change { place: node, is_room: true, amount })?;
+            self.log.push(Change {
+                place: node,
+                is_room: true,
+                amount,
+            })?;
         }
         add_amount(&mut self.rooms, node, amount);
         Ok(())
@@ -173,7 +183,10 @@ impl KeptFlow {
     fn next_up(&self, network: &Network, row: &[u32], from: usize) -> usize {
         for k in from..row.len() {
             let node = network.tail(row[k]);
-            if self.flow(row[k]) > 0 && !self.is_seen(node) && (!self.is_filling || self.is_inside(node)) {
+            if self.flow(row[k]) > 0
+                && !self.is_seen(node)
+                && (!self.is_filling || self.is_inside(node))
+            {
                 return k;
             }
         }
@@ -188,7 +201,11 @@ impl KeptFlow {
             };
             put_number(&mut self.seen, visit.node, 0);
             if visit.arc != NONE {
-                let more = if visit.is_back { 0i64.saturating_sub(amount) } else { amount };
+                let more = if visit.is_back {
+                    0i64.saturating_sub(amount)
+                } else {
+                    amount
+                };
                 self.add_flow(visit.arc, more)?;
             }
             self.effort.spend(1);
@@ -203,7 +220,11 @@ impl KeptFlow {
         self.spend(k.saturating_sub(visit.next));
         let is_down_over = k >= row.len();
         let next = if is_down_over { 0 } else { k.saturating_add(1) };
-        self.path.push(Visit { is_down_over, next, ..visit })?;
+        self.path.push(Visit {
+            is_down_over,
+            next,
+            ..visit
+        })?;
         if let Some(arc) = row.get(k) {
             let node = network.head(*arc);
             self.enter(node, visit.most, *arc, false)?;
@@ -234,7 +255,10 @@ impl KeptFlow {
         };
         let node = network.tail(*arc);
         let most = visit.most.min(self.flow(*arc));
-        self.path.push(Visit { next: k.saturating_add(1), ..visit })?;
+        self.path.push(Visit {
+            next: k.saturating_add(1),
+            ..visit
+        })?;
         if self.is_inside(node) {
             self.enter(node, most, *arc, true)?;
             return Ok(0);
@@ -326,7 +350,11 @@ impl KeptFlow {
             if flow <= 0 || self.is_seen(node) || self.effort.is_spent() {
                 break;
             }
-            let turned = if self.is_inside(node) { self.push(network, node, flow)? } else { flow };
+            let turned = if self.is_inside(node) {
+                self.push(network, node, flow)?
+            } else {
+                flow
+            };
             if turned == 0 {
                 break;
             }
@@ -337,7 +365,12 @@ impl KeptFlow {
     }
 
     // Turns once elsewhere what flows into closed nodes, until that is more than is asked for.
-    fn turn_all(&mut self, network: &Network, closed: &[u32], enough: i64) -> Result<i64, NoMemory> {
+    fn turn_all(
+        &mut self,
+        network: &Network,
+        closed: &[u32],
+        enough: i64,
+    ) -> Result<i64, NoMemory> {
         self.new_stamp();
         for node in closed {
             self.see(*node);
@@ -356,9 +389,14 @@ impl KeptFlow {
         Ok(total)
     }
 
-    /// The memory of the least closed set inside that has all of a closed list, or as much of it as is above a limit. The flow is left as it
-    /// shows that, until it is taken back.
-    pub fn force(&mut self, network: &Network, closed: &[u32], limit: i64) -> Result<i64, NoMemory> {
+    /// The memory of the least closed set inside that has all of a closed list, or as much of it as is above a limit. The flow is
+    /// left as it shows that, until it is taken back.
+    pub fn force(
+        &mut self,
+        network: &Network,
+        closed: &[u32],
+        limit: i64,
+    ) -> Result<i64, NoMemory> {
         self.is_logged = true;
         let mut level = self.level;
         for node in closed {

@@ -1,7 +1,7 @@
 //! Evidence for a lower bound on the peak of a shared system, found by growth in both directions.
 //!
-//! Nothing is promised of how good the bound is: evidence is judged by `peak_bounds`. What is promised is that the search ends, within an
-//! effort counted in steps, and never by a clock.
+//! Nothing is promised of how good the bound is: evidence is judged by `peak_bounds`. What is promised is that the search ends,
+//! within an effort counted in steps, and never by a clock.
 #![tactic(auto)]
 
 mod closure;

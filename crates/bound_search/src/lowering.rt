@@ -1,5 +1,5 @@
-//! The lowered sizes that a flow shows. A use of an item that nobody else reads is lowered by what flows by its arc; the uses of a shared item
-//! have what flows from its collector to their readers, less that; a reader that waits for certain has the rest.
+//! The lowered sizes that a flow shows. A use of an item that nobody else reads is lowered by what flows by its arc; the uses of
+//! a shared item have what flows from its collector to their readers, less that; a reader that waits for certain has the rest.
 
 use crate::NoMemory;
 use crate::closure::Closure;
@@ -65,12 +65,20 @@ impl Lowering {
 
     // By whom a use is read: a task, or the end.
     fn reader(&self, network: &Network, place: u32) -> u32 {
-        if self.is_first { network.tail(place) } else { network.head(place) }
+        if self.is_first {
+            network.tail(place)
+        } else {
+            network.head(place)
+        }
     }
 
     // By whom it is made: a task, or the start.
     fn producer(&self, network: &Network, place: u32) -> u32 {
-        if self.is_first { network.head(place) } else { network.tail(place) }
+        if self.is_first {
+            network.head(place)
+        } else {
+            network.tail(place)
+        }
     }
 
     fn is_outside(&self, node: u32) -> bool {
@@ -79,7 +87,9 @@ impl Lowering {
 
     // What flows from the collector to the reader, less what flows from there.
     fn passed(&self, table: &UseTable, place: u32) -> i64 {
-        self.kept.flow(table.side(place)).saturating_sub(self.kept.flow(place))
+        self.kept
+            .flow(table.side(place))
+            .saturating_sub(self.kept.flow(place))
     }
 
     // As the first of the set starts: the first reader outside has the rest.
@@ -161,7 +171,12 @@ impl Lowering {
     }
 
     // The lowered sizes of the set: those that hold where a task has none of its own.
-    fn make_base(&mut self, alloc: Global, network: &Network, table: &UseTable) -> Result<Vec<Amount>, NoMemory> {
+    fn make_base(
+        &mut self,
+        alloc: Global,
+        network: &Network,
+        table: &UseTable,
+    ) -> Result<Vec<Amount>, NoMemory> {
         let mut amounts = Vec::new(alloc);
         for item in 0..table.items() {
             if self.is_in_base(network, table, item) {
@@ -170,7 +185,11 @@ impl Lowering {
             }
         }
         for amount in &amounts {
-            put_amount(&mut self.base, amount.place.saturating_sub(1), amount.amount);
+            put_amount(
+                &mut self.base,
+                amount.place.saturating_sub(1),
+                amount.amount,
+            );
         }
         Ok(amounts)
     }
@@ -180,7 +199,10 @@ impl Lowering {
         for place in table.first(item)..table.first(item.saturating_add(1)) {
             let amount = amount_at(&self.now, place);
             if amount != amount_at(&self.base, place) {
-                amounts.push(Amount { place: place.saturating_add(1), amount })?;
+                amounts.push(Amount {
+                    place: place.saturating_add(1),
+                    amount,
+                })?;
             }
         }
         Ok(())
@@ -195,7 +217,12 @@ impl Lowering {
     }
 
     // The items whose lowered sizes may differ from those of the set.
-    fn touch_all(&mut self, network: &Network, table: &UseTable, task: u32) -> Result<(), NoMemory> {
+    fn touch_all(
+        &mut self,
+        network: &Network,
+        table: &UseTable,
+        task: u32,
+    ) -> Result<(), NoMemory> {
         self.touched.clear();
         for k in 0..self.kept.log().len() {
             let Some(change) = self.kept.log().get(k).copied() else {
@@ -219,10 +246,18 @@ impl Lowering {
     }
 
     // A task of the set, with its own lowered sizes.
-    fn blocker(&mut self, alloc: Global, network: &Network, table: &UseTable, task: u32) -> Result<Blocker, NoMemory> {
+    fn blocker(
+        &mut self,
+        alloc: Global,
+        network: &Network,
+        table: &UseTable,
+        task: u32,
+    ) -> Result<Blocker, NoMemory> {
         let steps = self.closure.set(network, task)?;
         self.kept.spend(steps);
-        let _ = self.kept.force(network, self.closure.members(), crate::kept_flow::MUCH)?;
+        let _ = self
+            .kept
+            .force(network, self.closure.members(), crate::kept_flow::MUCH)?;
         self.touch_all(network, table, task)?;
         let mut amounts = Vec::new(alloc);
         for k in 0..self.touched.len() {
@@ -258,6 +293,10 @@ pub fn evidence_of(
     if lowering.kept.effort().is_spent() {
         return Ok(None);
     }
-    let event = if lowering.is_first { Event::First } else { Event::Last };
+    let event = if lowering.is_first {
+        Event::First
+    } else {
+        Event::Last
+    };
     Ok(Some(EventSet::new(event, base, blockers)))
 }

@@ -1,7 +1,7 @@
 //! A system as a network: nodes, each with what it adds to the memory and what it needs, and arcs to the nodes that come before.
 //!
-//! Node 0 is the start, which makes what is given; then come the tasks by their numbers; then the end, which reads what nobody reads; then a
-//! collector for each item with several readers, which takes the item up after all of them.
+//! Node 0 is the start, which makes what is given; then come the tasks by their numbers; then the end, which reads what nobody
+//! reads; then a collector for each item with several readers, which takes the item up after all of them.
 
 use crate::NoMemory;
 use crate::rows::Rows;
@@ -9,8 +9,8 @@ use crate::tables::{add_amount, amount_at, count_of};
 use shared_systems::SharedSystem;
 use std::alloc::Global;
 
-/// The network of a system, in one of its two directions. The arc at the place of a use runs from its reader, or the end, to its producer,
-/// or the start; after these come the arcs from collectors to readers. In the mirror all arcs run the other way.
+/// The network of a system, in one of its two directions. The arc at the place of a use runs from its reader, or the end, to its
+/// producer, or the start; after these come the arcs from collectors to readers. In the mirror all arcs run the other way.
 #[derive(Drop)]
 pub struct Network {
     tasks: u32,
@@ -43,13 +43,14 @@ struct Draft {
 }
 
 impl Draft {
-    // The tasks alone, with their extras, and room for so many nodes.
+    // The tasks alone, with their extras less their shares, and room for so many nodes.
     fn new(alloc: Global, system: &SharedSystem, nodes: usize) -> Result<Draft, NoMemory> {
         let tasks = system.tasks();
         let mut needs = vec![in alloc; 0; nodes]?;
         let changes = vec![in alloc; 0; nodes]?;
         for (place, task) in tasks.iter().enumerate() {
-            add_amount(&mut needs, count_of(place).saturating_add(1), signed(task.extra));
+            let more = signed(task.extra).saturating_sub(signed(task.share));
+            add_amount(&mut needs, count_of(place).saturating_add(1), more);
         }
         Ok(Draft {
             end: count_of(tasks.len()).saturating_add(1),
@@ -125,7 +126,11 @@ impl Network {
         let nodes = node_count(system);
         let mut draft = Draft::new(alloc, system, nodes)?;
         for i in 0..items.len() {
-            draft.item(signed(items.size(i)), items.producer(i).unwrap_or(0), items.readers(i))?;
+            draft.item(
+                signed(items.size(i)),
+                items.producer(i).unwrap_or(0),
+                items.readers(i),
+            )?;
         }
         let uses = count_of(draft.tails.len());
         for i in 0..items.len() {
@@ -164,7 +169,11 @@ impl Network {
         for node in 0..self.nodes {
             let change = amount_at(&self.changes, node);
             add_amount(&mut changes, node, 0i64.saturating_sub(change));
-            add_amount(&mut needs, node, amount_at(&self.needs, node).saturating_sub(change));
+            add_amount(
+                &mut needs,
+                node,
+                amount_at(&self.needs, node).saturating_sub(change),
+            );
         }
         Ok(Network {
             tasks: self.tasks,

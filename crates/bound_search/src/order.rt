@@ -27,7 +27,11 @@ impl Listing {
         let nodes = network.nodes() as usize;
         let mut missing = vec![in alloc; 0; nodes]?;
         for node in 0..network.nodes() {
-            put_number(&mut missing, node, crate::tables::count_of(network.down(node).len()));
+            put_number(
+                &mut missing,
+                node,
+                crate::tables::count_of(network.down(node).len()),
+            );
         }
         let mut seen = vec![in alloc; false; nodes]?;
         mark(&mut seen, network.root());

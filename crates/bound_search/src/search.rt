@@ -51,7 +51,11 @@ struct Search {
 }
 
 // The task that reads and needs the most, and how much it is.
-fn most_needing(alloc: Global, system: &SharedSystem, network: &Network) -> Result<(u32, i64), NoMemory> {
+fn most_needing(
+    alloc: Global,
+    system: &SharedSystem,
+    network: &Network,
+) -> Result<(u32, i64), NoMemory> {
     let mut reads = vec![in alloc; 0; network.nodes() as usize]?;
     let items = system.items();
     for i in 0..items.len() {
@@ -110,7 +114,11 @@ impl Search {
 
     fn find(&mut self, bound: i64, is_first: bool, set: Vec<u32>) -> Result<(), NoMemory> {
         self.bound = bound;
-        self.found.push(Found { bound, is_first, set })?;
+        self.found.push(Found {
+            bound,
+            is_first,
+            set,
+        })?;
         Ok(())
     }
 
@@ -153,7 +161,13 @@ impl Search {
     // Grows in one direction, with so much effort.
     fn grow(&mut self, alloc: Global, is_first: bool, most: u64) -> Result<(), NoMemory> {
         let side = side_of(&self.forwards, &self.mirrored, is_first);
-        let mut growth = Growth::new(alloc, &side.network, &side.order, self.bound, Effort::new(most))?;
+        let mut growth = Growth::new(
+            alloc,
+            &side.network,
+            &side.order,
+            self.bound,
+            Effort::new(most),
+        )?;
         let mut best = None;
         for _ in 0..most {
             if growth.bound() >= self.peak || !growth.grow(alloc, &side.network, &side.order)? {
@@ -170,13 +184,21 @@ impl Search {
     }
 
     // The best evidence that can be made of what was found.
-    fn evidence(mut self, alloc: Global, system: &SharedSystem) -> Result<Option<(i64, Evidence)>, NoMemory> {
+    fn evidence(
+        mut self,
+        alloc: Global,
+        system: &SharedSystem,
+    ) -> Result<Option<(i64, Evidence)>, NoMemory> {
         let table = UseTable::new(alloc, system)?;
         for _ in 0..self.found.len() {
             let Some(found) = self.found.pop() else {
                 break;
             };
-            let Found { bound, is_first, mut set } = found;
+            let Found {
+                bound,
+                is_first,
+                mut set,
+            } = found;
             set.sort_unstable();
             let side = side_of(&self.forwards, &self.mirrored, is_first);
             let effort = Effort::new(self.effort);
@@ -189,8 +211,8 @@ impl Search {
     }
 }
 
-/// A lower bound on the peak of every traversal of a system, with evidence for it: the best that growth finds in both directions with an
-/// effort, counted in steps. It is not promised to hold: whoever needs that judges the evidence.
+/// A lower bound on the peak of every traversal of a system, with evidence for it: the best that growth finds in both directions
+/// with an effort, counted in steps. It is not promised to hold: whoever needs that judges the evidence.
 pub fn find_bound(
     alloc: Global,
     system: &SharedSystem,

@@ -98,7 +98,10 @@ impl UseTable {
         if arc < self.uses() {
             number_at(&self.items, arc)
         } else {
-            number_at(&self.items, number_at(&self.of_sides, arc.saturating_sub(self.uses())))
+            number_at(
+                &self.items,
+                number_at(&self.of_sides, arc.saturating_sub(self.uses())),
+            )
         }
     }
 
