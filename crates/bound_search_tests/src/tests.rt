@@ -1,0 +1,89 @@
+//! Bounds of small systems, with the least peaks worked by hand.
+
+use bound_search::find_bound;
+use mp_system::GivenTask;
+use peak_bounds::{Event, Evidence};
+use shared_systems::{GivenSharedItem, SharedSystem, shared_system_of_arrays};
+use std::alloc::Global;
+
+fn task(extra: u64, share: u64) -> GivenTask {
+    GivenTask {
+        extra,
+        share,
+        time: 1,
+    }
+}
+
+// An item that so many tasks read.
+fn item(size: u64, from: u32, readers: u32) -> GivenSharedItem {
+    GivenSharedItem {
+        size,
+        from,
+        readers,
+    }
+}
+
+// The system of these arrays; none if they give none.
+fn system_of(
+    alloc: Global,
+    tasks: &[GivenTask],
+    items: &[GivenSharedItem],
+    readers: &[u32],
+) -> Option<SharedSystem> {
+    match shared_system_of_arrays(alloc, tasks, items, readers) {
+        Ok(system) => Some(system),
+        Err(_) => None,
+    }
+}
+
+// Two leaves that need 9 + 1, each below a task that makes 5 of 1, and a root: whichever leaf runs last has at least 1 beside it.
+fn tree(alloc: Global) -> Option<SharedSystem> {
+    let tasks = [task(9, 0), task(0, 0), task(9, 0), task(0, 0), task(0, 0)];
+    let items = [item(1, 1, 1), item(5, 2, 1), item(1, 3, 1), item(5, 4, 1)];
+    system_of(alloc, &tasks, &items, &[2, 5, 4, 5])
+}
+
+// Tasks 2 and 3 both read what task 1 makes, and task 4 reads what they make, and takes 1 of it over. Task 3, run before task 2, has 5 of
+// task 1 and needs 5: the least peak is 10.
+fn diamond(alloc: Global) -> Option<SharedSystem> {
+    let tasks = [task(0, 0), task(1, 0), task(2, 0), task(2, 1)];
+    let items = [item(5, 1, 2), item(1, 2, 1), item(3, 3, 1), item(2, 4, 0)];
+    system_of(alloc, &tasks, &items, &[2, 3, 4, 4])
+}
+
+// A bound that was found: its value, how many tasks show it (0 for the need of one), and whether as the last to run.
+fn found(alloc: Global, system: Option<SharedSystem>, effort: u64) -> Option<(u64, usize, bool)> {
+    match find_bound(alloc, &system?, effort) {
+        Ok((bound, Evidence::Need(_))) => Some((bound, 0, false)),
+        Ok((bound, Evidence::Set(set))) => {
+            Some((bound, set.blockers().len(), set.event() == Event::Last))
+        }
+        Err(_) => None,
+    }
+}
+
+#[test]
+fn the_last_leaf_has_something_beside_it(rt: HostRuntime) {
+    let alloc = rt.alloc();
+    assert_eq!(rt; found(alloc, tree(alloc), 100_000), Some((11, 2, true)));
+}
+
+#[test]
+fn a_need_may_be_all_there_is_to_show(rt: HostRuntime) {
+    let alloc = rt.alloc();
+    assert_eq!(rt; found(alloc, diamond(alloc), 100_000), Some((10, 0, false)));
+}
+
+// A task that takes over the 6 that it reads needs nothing beside them.
+#[test]
+fn what_a_task_takes_over_counts_once(rt: HostRuntime) {
+    let alloc = rt.alloc();
+    let system = system_of(alloc, &[task(6, 6)], &[item(6, 0, 1)], &[1]);
+    assert_eq!(rt; found(alloc, system, 1_000), Some((6, 0, false)));
+}
+
+#[test]
+fn without_effort_the_needs_are_left(rt: HostRuntime) {
+    let alloc = rt.alloc();
+    assert_eq!(rt; found(alloc, tree(alloc), 0), Some((10, 0, false)));
+}
