@@ -24,9 +24,9 @@ use Rattle.peak_bounds.specs.declared.use_table.UseTable.{UseTable}
 use Rattle.peak_bounds.specs.EventSets.{BlockerValue, EventSetValue}
 use Rattle.peak_bounds.specs.Moments.{uses_of, Moment, level_of}
 use Rattle.peak_bounds.specs.Evidence.{use_count, lowered_by, task_of, set_tasks, HasRun, Waits, IsMomentOf, OpenTasksRise, blocker_at, Passes}
-use Rattle.peak_bounds.specs.Evidence.{AreAmounts, IsEventSet, IsEvidence, IsObjection}
+use Rattle.peak_bounds.specs.Evidence.{AreAmounts, IsEventSet, IsEvidence, IsObjection, EarlierPass, AreFormed, PassBefore, IsFirstFailing}
 use Rattle.peak_bounds.specs.Judging.{maker_of, AreUses}
-use Rattle.peak_bounds.specs.Judged.{test_of, IsFormed, PassesAtMoment}
+use Rattle.peak_bounds.specs.Judged.{test_of, IsFormed, PassesAtMoment, FailsAtMoment}
 use Rattle.peak_bounds.proofs.AtBlockers.{same_moment, evidence_bound}
 
 -- ---- a blocker
@@ -116,13 +116,26 @@ module _ (system : SharedTaskSystem) (set : EventSetValue) (bound : ℕ) (formed
   at_moment tests.Open k place passes = passes.opens
   at_moment tests.Level k place passes = passes.level
 
-  pub first_failing : (test : BlockerTest) (i : ℕ) → i < length set.blockers → ((k : ℕ) → 1 ≤ k → k < i + 1 → PassesAtMoment system set bound k)
-      → (Passes system set bound test (i + 1) → ⊥) → IsFirstWithout (length set.blockers) (Passes system set bound test) (i + 1)
-  first_failing test i lt before fails = record {
-    is_place = (omega arith, omega (arith, lt));
-    fails = fails;
-    before = λ k low less. at_moment test k (low, omega (arith, less, lt)) (before k low less);
-  }
+  formed_tests : AreFormed system set bound
+  formed_tests = (formed.each forms.Task, formed.each forms.Rising, formed.each forms.Amounts)
+
+  module _ (i : ℕ) (lt : i < length set.blockers) (before : (k : ℕ) → 1 ≤ k → k < i + 1 → PassesAtMoment system set bound k) where
+    earlier_pass : EarlierPass system set bound (i + 1)
+    earlier_pass = λ test k low less. at_moment test k (low, omega (arith, less, lt)) (before k low less)
+
+    first_at : (test : BlockerTest) → (Passes system set bound test (i + 1) → ⊥) → IsFirstWithout (length set.blockers) (Passes system set bound test) (i + 1)
+    first_at test fails = record { is_place = (omega arith, omega (arith, lt)); fails = fails; before = earlier_pass test }
+
+    failing_with : (test : BlockerTest) → PassBefore system set bound test (i + 1) → (Passes system set bound test (i + 1) → ⊥) → IsFirstFailing system set bound test (i + 1)
+    failing_with test passed fails = record { some = formed.some; base = formed.base; before = passed; first = first_at test fails }
+
+    pub first_failing : (test : BlockerTest) → FailsAtMoment system set bound test (i + 1) → IsFirstFailing system set bound test (i + 1)
+    first_failing tests.Task fails = absurd fails
+    first_failing tests.Rising fails = absurd fails
+    first_failing tests.Amounts fails = absurd fails
+    first_failing tests.Sizes fails = failing_with tests.Sizes (formed_tests, earlier_pass) fails
+    first_failing tests.Open fails = failing_with tests.Open (formed_tests, earlier_pass, fails.0) fails.1
+    first_failing tests.Level fails = failing_with tests.Level (formed_tests, earlier_pass, fails.0, fails.1) fails.2
 
   pub all_pass : (i : ℕ) → length set.blockers ≤ i → ((k : ℕ) → 1 ≤ k → k < i + 1 → PassesAtMoment system set bound k) → IsEventSet system set bound
   all_pass i long passes = record {
@@ -137,8 +150,8 @@ set_refuted : (system : SharedTaskSystem) (set : EventSetValue) (bound : ℕ) (o
 set_refuted system set bound objections.NoTask objection is = objection
 set_refuted system set bound objections.Low objection is = objection
 set_refuted system set bound objections.Empty objection is = omega (arith, is.some, ap (λ (l : List BlockerValue). length l) objection)
-set_refuted system set bound objections.Base objection is = objection is.base
-set_refuted system set bound (objections.Blocker test place) objection is = objection.fails (is.each test place objection.is_place)
+set_refuted system set bound objections.Base objection is = objection.1 is.base
+set_refuted system set bound (objections.Blocker test place) objection is = objection.first.fails (is.each test place objection.first.is_place)
 
 need_refuted : (system : SharedTaskSystem) (t bound : ℕ) (o : Objection) → IsObjection system (Need t) bound o → IsEvidence system (Need t) bound → ⊥
 need_refuted system t bound objections.NoTask objection is = objection is.0
@@ -162,7 +175,10 @@ pub peaks_by : (system : SharedTaskSystem) (evidence : Evidence) (bound : ℕ) (
 peaks_by system evidence bound found within judged none order traversal =
     evidence_bound system within order traversal evidence bound ((exactly system evidence bound found judged).0 none)
 
--- ---- what is formed
+-- ---- what is formed, or not
+
+pub some_by : (set : EventSetValue) (bs : List BlockerValue) → bs ≡ set.blockers → length bs ≢ 0 → 1 ≤ length set.blockers
+some_by set bs same some = (let e : length set.blockers ≢ 0 = subst (λ (l : List BlockerValue). length l ≢ 0) same some in omega (arith, e))
 
 pub formed_by : (system : SharedTaskSystem) (set : EventSetValue) (bound : ℕ) → length set.blockers ≢ 0 → AreAmounts (use_count system) set.base
     → Each (length set.blockers) (Passes system set bound tests.Task) → Each (length set.blockers) (Passes system set bound tests.Rising)

@@ -117,11 +117,15 @@ Passes system set bound tests.Open place =
 Passes system set bound tests.Level place =
     (moment : Moment) × IsMomentOf system set (blocker_at set place) moment × (pos bound ≤ℤ level_of system moment)
 
+-- each blocker passes a test
+abbrev pub EachPasses : SharedTaskSystem → EventSetValue → ℕ → BlockerTest → Type 0
+EachPasses system set bound test = Each (length set.blockers) (Passes system set bound test)
+
 -- there is a blocker, and each meets all of this
 pub record IsEventSet (system : SharedTaskSystem) (set : EventSetValue) (bound : ℕ) : Type 0 where
   pub some : 1 ≤ length set.blockers
   pub base : AreAmounts (use_count system) set.base
-  pub each : (test : BlockerTest) → Each (length set.blockers) (Passes system set bound test)
+  pub each : (test : BlockerTest) → EachPasses system set bound test
 
 -- what a task reads and what it needs beside that, together
 abbrev pub memory_of_task : SharedTaskSystem → ℕ → ℕ
@@ -131,13 +135,38 @@ abbrev pub IsEvidence : SharedTaskSystem → Evidence → ℕ → Type 0
 IsEvidence system (Need t) bound = HasTask system t × (bound ≤ memory_of_task system t)
 IsEvidence system (Set set) bound = IsEventSet system set bound
 
--- what is said against evidence: what it does not meet, and the first blocker that does not
+-- the tests are tried one after the other: those of tasks and amounts each at all blockers, and then the others blocker by blocker. What holds
+-- where a test at a place is the first that fails
+abbrev pub EarlierPass : SharedTaskSystem → EventSetValue → ℕ → ℕ → Type 0
+EarlierPass system set bound place = (test : BlockerTest) (earlier : ℕ) → 1 ≤ earlier → earlier < place → Passes system set bound test earlier
+
+abbrev pub AreFormed : SharedTaskSystem → EventSetValue → ℕ → Type 0
+AreFormed system set bound =
+    EachPasses system set bound tests.Task × EachPasses system set bound tests.Rising × EachPasses system set bound tests.Amounts
+
+abbrev pub PassBefore : SharedTaskSystem → EventSetValue → ℕ → BlockerTest → ℕ → Type 0
+PassBefore system set bound tests.Task place = Unit {0}
+PassBefore system set bound tests.Rising place = EachPasses system set bound tests.Task
+PassBefore system set bound tests.Amounts place = EachPasses system set bound tests.Task × EachPasses system set bound tests.Rising
+PassBefore system set bound tests.Sizes place = AreFormed system set bound × EarlierPass system set bound place
+PassBefore system set bound tests.Open place =
+    AreFormed system set bound × EarlierPass system set bound place × Passes system set bound tests.Sizes place
+PassBefore system set bound tests.Level place =
+    AreFormed system set bound × EarlierPass system set bound place × Passes system set bound tests.Sizes place
+    × Passes system set bound tests.Open place
+
+pub record IsFirstFailing (system : SharedTaskSystem) (set : EventSetValue) (bound : ℕ) (test : BlockerTest) (place : ℕ) : Type 0 where
+  pub some : 1 ≤ length set.blockers
+  pub base : AreAmounts (use_count system) set.base
+  pub before : PassBefore system set bound test place
+  pub first : IsFirstWithout (length set.blockers) (Passes system set bound test) place
+
+-- what is said against evidence: the first thing that it does not meet
 abbrev pub IsObjection : SharedTaskSystem → Evidence → ℕ → Objection → Type 0
 IsObjection system (Need t) bound objections.NoTask = ¬ HasTask system t
 IsObjection system (Need t) bound objections.Low = HasTask system t × (memory_of_task system t < bound)
 IsObjection system (Need t) bound _ = ⊥
 IsObjection system (Set set) bound objections.Empty = set.blockers ≡ []
-IsObjection system (Set set) bound objections.Base = ¬ AreAmounts (use_count system) set.base
-IsObjection system (Set set) bound (objections.Blocker test place) =
-    IsFirstWithout (length set.blockers) (Passes system set bound test) place
+IsObjection system (Set set) bound objections.Base = (1 ≤ length set.blockers) × (¬ AreAmounts (use_count system) set.base)
+IsObjection system (Set set) bound (objections.Blocker test place) = IsFirstFailing system set bound test place
 IsObjection system (Set set) bound _ = ⊥

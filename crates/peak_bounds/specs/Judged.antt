@@ -26,3 +26,11 @@ pub record PassesAtMoment (system : SharedTaskSystem) (set : EventSetValue) (bou
   pub sizes : Passes system set bound tests.Sizes place
   pub opens : Passes system set bound tests.Open place
   pub level : Passes system set bound tests.Level place
+
+-- the blocker at a place fails this one, and passes those before
+abbrev pub FailsAtMoment : SharedTaskSystem → EventSetValue → ℕ → BlockerTest → ℕ → Type 0
+FailsAtMoment system set bound tests.Sizes place = ¬ Passes system set bound tests.Sizes place
+FailsAtMoment system set bound tests.Open place = Passes system set bound tests.Sizes place × (¬ Passes system set bound tests.Open place)
+FailsAtMoment system set bound tests.Level place =
+    Passes system set bound tests.Sizes place × Passes system set bound tests.Open place × (¬ Passes system set bound tests.Level place)
+FailsAtMoment system set bound _ place = ⊥

@@ -8,7 +8,7 @@ ghost use Rattle.shared_systems.specs.SharedTraversal.{IsSharedTraversal};
 ghost use Rattle.peak_bounds.specs.EventSets.{EventSetValue};
 ghost use Rattle.peak_bounds.specs.Evidence.{use_count, set_tasks, Passes, IsEventSet, IsEvidence, IsObjection};
 ghost use Rattle.peak_bounds.specs.Judging.{AreUses};
-ghost use Rattle.peak_bounds.specs.Judged.{test_of, IsFormed, PassesAtMoment};
+ghost use Rattle.peak_bounds.specs.Judged.{test_of, IsFormed, PassesAtMoment, FailsAtMoment};
 
 use crate::NoMemory;
 use crate::evidence::{Blocker, BlockerTest, EventSet, Evidence, Objection};
@@ -129,7 +129,7 @@ fn judge_blocker(
     requires i { i < length set.now.blockers }
     ensures { IfOk result (λ found. MatchOption found
         (PassesAtMoment system.now set.now bound (i + 1))
-        (λ test. ¬ Passes system.now set.now bound test (i + 1))) }
+        (λ test. FailsAtMoment system.now set.now bound test (i + 1))) }
 {
     let blocker = &set.blockers()[i];
     let lowered = lowered_of(alloc, uses.makers.len(), set.base(), blocker.amounts())?;

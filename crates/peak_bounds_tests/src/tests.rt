@@ -120,12 +120,7 @@ fn third(alloc: Global, base: &[Amount]) -> Result<Option<Objection>, Fail> {
 
 // And against the need of a task of the diamond.
 fn need(alloc: Global, task: u32, bound: u64) -> Result<Option<Objection>, Fail> {
-    Ok(judge_evidence(
-        alloc,
-        &diamond(alloc)?,
-        &Evidence::Need(task),
-        bound,
-    )?)
+    Ok(judge_evidence(alloc, &diamond(alloc)?, &Evidence::Need(task), bound)?)
 }
 
 fn failing(test: BlockerTest, place: u64) -> Option<Objection> {
@@ -244,10 +239,7 @@ fn the_uses_of_an_item_share_its_size(rt: HostRuntime) -> Result<(), Fail> {
         failing(BlockerTest::Sizes, 1)
     );
     // Task 2 takes up what it does not leave.
-    assert_eq!(rt;
-        third(alloc, &[told(1, 5)])?,
-        failing(BlockerTest::Open, 1)
-    );
+    assert_eq!(rt; third(alloc, &[told(1, 5)])?, failing(BlockerTest::Open, 1));
     assert_eq!(rt;
         third(alloc, &[told(1, -1), told(2, 5)])?,
         failing(BlockerTest::Level, 1)

@@ -3,13 +3,14 @@ use Rattle.std.specs.Prelude.{ℤ}
 use Rattle.std.proofs.lemmas.Bool.{both_ways}
 use Rattle.shared_systems.specs.Shared.{HasTask, SharedItem}
 use Rattle.peak_bounds.specs.declared.evidence.Amount.{Amount}
+use Rattle.peak_bounds.specs.declared.evidence.BlockerTest.TheVariants as tests
 use Rattle.peak_bounds.specs.declared.judging.FormTest.TheVariants as forms
 use Rattle.peak_bounds.specs.EventSets.{BlockerValue}
 use Rattle.peak_bounds.specs.Moments.{uses_of, Moment, FitSizes}
-use Rattle.peak_bounds.specs.Evidence.{use_count, lowered_by, blocker_at, IsAmount, AreAmounts, IsMomentOf}
+use Rattle.peak_bounds.specs.Evidence.{use_count, lowered_by, blocker_at, IsAmount, AreAmounts, IsMomentOf, Passes}
 use Rattle.peak_bounds.proofs.Verdicts.{blocker_is, tasks_same, count_is, lowered-len, moment_is, not_open, not_level}
 use Rattle.peak_bounds.proofs.judging.judge_blocker.Goals as goal
-use Rattle.peak_bounds.proofs.judging.judge_blocker.Goals.{After-amounts, After-event, In_ok-lowered, In_ok-waiting}
+use Rattle.peak_bounds.proofs.judging.judge_blocker.Goals.{Else-not-fit_sizes, After-amounts, After-event, In_ok-lowered, In_ok-waiting}
 
 the_blocker : (c : After-amounts) → c.index-blockers-i.result ≡ blocker_at c.args.set.now (c.args.i + 1)
 the_blocker c =
@@ -107,33 +108,42 @@ of c b_is sizes done waiting lowered done_is waiting_is lowered_is =
     (subst (λ (w : List Bool). IsMomentOf system set b (made c.in_ok-done.done.items w lowered)) (sym waiting_is)
     (subst (λ (l : List ℤ). IsMomentOf system set b (made c.in_ok-done.done.items c.in_ok-waiting.waiting.items l)) (sym lowered_is) items))
 
+fit : (c : Else-not-fit_sizes) → c.in_ok-lowered.lowered.items ≡ lowered_by (use_count c.args.system.now) c.args.set.now.base (blocker_at c.args.set.now (c.args.i + 1)).amounts
+    → Passes c.args.system.now c.args.set.now c.args.bound tests.Sizes (c.args.i + 1)
+fit c sizes =
+    subst (λ (l : List ℤ). FitSizes c.args.system.now.items l) (c.deref.ensures.value ∙ sizes)
+    (subst (λ (xs : List SharedItem). FitSizes xs c.deref.result.now) c.items.ensures.value (c.fit_sizes.ensures.0 c.if-not-fit_sizes.false))
+
 pub returns-then-not-open_tasks_rise : goal.returns-then-not-open_tasks_rise
 returns-then-not-open_tasks_rise c =
     let a = (goal.at.returns-then-not-open_tasks_rise c).After-amounts in
     let sizes = sizes_are (goal.at.returns-then-not-open_tasks_rise c).In_ok-lowered (the_blocker a) (count a) in
-    let m = of (goal.at.returns-then-not-open_tasks_rise c).In_ok-waiting (the_blocker a) sizes c.deref-2.result.now c.deref-3.result.now c.deref-4.result.now c.deref-2.ensures.value c.deref-3.ensures.value c.deref-4.ensures.value in
-    not_open c.args.system.now c.args.set.now c.args.bound (c.args.i + 1) _ m (λ rise. both_ways c.open_tasks_rise.result c.if-not-open_tasks_rise.true (c.open_tasks_rise.ensures.1 rise))
+    let m = of (goal.at.returns-then-not-open_tasks_rise c).In_ok-waiting (the_blocker a) sizes c.deref-2.result.now c.deref-3.result.now c.deref-4.result.now c.deref-2.ensures.value c.deref-3.ensures.value c.deref-4.ensures.value in (
+      fit (goal.at.returns-then-not-open_tasks_rise c).Else-not-fit_sizes sizes,
+      not_open c.args.system.now c.args.set.now c.args.bound (c.args.i + 1) _ m (λ rise. both_ways c.open_tasks_rise.result c.if-not-open_tasks_rise.true (c.open_tasks_rise.ensures.1 rise)),
+    )
 
 pub returns-then-not-reaches : goal.returns-then-not-reaches
 returns-then-not-reaches c =
     let a = (goal.at.returns-then-not-reaches c).After-amounts in
     let sizes = sizes_are (goal.at.returns-then-not-reaches c).In_ok-lowered (the_blocker a) (count a) in
-    let m = of (goal.at.returns-then-not-reaches c).In_ok-waiting (the_blocker a) sizes c.deref-5.result.now c.in_ok-waiting.waiting.items c.deref-6.result.now c.deref-5.ensures.value refl c.deref-6.ensures.value in
-    not_level c.args.system.now c.args.set.now c.args.bound (c.args.i + 1) _ m (λ high. both_ways c.reaches.result c.if-not-reaches.true (c.reaches.ensures.1 high))
+    let w = (goal.at.returns-then-not-reaches c).In_ok-waiting in
+    let opens = of w (the_blocker a) sizes c.deref-2.result.now c.deref-3.result.now c.deref-4.result.now c.deref-2.ensures.value c.deref-3.ensures.value c.deref-4.ensures.value in
+    let m = of w (the_blocker a) sizes c.deref-5.result.now c.in_ok-waiting.waiting.items c.deref-6.result.now c.deref-5.ensures.value refl c.deref-6.ensures.value in (
+      fit (goal.at.returns-then-not-reaches c).Else-not-fit_sizes sizes,
+      (_, opens, c.open_tasks_rise.ensures.0 c.if-not-open_tasks_rise.false),
+      not_level c.args.system.now c.args.set.now c.args.bound (c.args.i + 1) _ m (λ high. both_ways c.reaches.result c.if-not-reaches.true (c.reaches.ensures.1 high)),
+    )
 
 pub returns : goal.returns
 returns c =
     let a = (goal.at.returns c).After-amounts in
-    let system = c.args.system.now in
     let sizes = sizes_are (goal.at.returns c).In_ok-lowered (the_blocker a) (count a) in
     let w = (goal.at.returns c).In_ok-waiting in
     let opens = of w (the_blocker a) sizes c.deref-2.result.now c.deref-3.result.now c.deref-4.result.now c.deref-2.ensures.value c.deref-3.ensures.value c.deref-4.ensures.value in
     let level = of w (the_blocker a) sizes c.deref-5.result.now c.in_ok-waiting.waiting.items c.deref-6.result.now c.deref-5.ensures.value refl c.deref-6.ensures.value in
-    let fit = c.fit_sizes.ensures.0 c.if-not-fit_sizes.false in
     record {
-      sizes =
-          subst (λ (l : List ℤ). FitSizes system.items l) (c.deref.ensures.value ∙ sizes)
-          (subst (λ (xs : List SharedItem). FitSizes xs c.deref.result.now) c.items.ensures.value fit);
+      sizes = fit (goal.at.returns c).Else-not-fit_sizes sizes;
       opens = (_, opens, c.open_tasks_rise.ensures.0 c.if-not-open_tasks_rise.false);
       level = (_, level, c.reaches.ensures.0 c.if-not-reaches.false);
     }

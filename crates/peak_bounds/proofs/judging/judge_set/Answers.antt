@@ -3,8 +3,7 @@ use Rattle.std.specs.Prelude.{MatchOption}
 use Rattle.std.proofs.lemmas.Bool.{cases_lt}
 use Rattle.peak_bounds.specs.declared.evidence.BlockerTest.{BlockerTest}
 use Rattle.peak_bounds.specs.EventSets.{BlockerValue}
-use Rattle.peak_bounds.specs.Evidence.{Passes}
-use Rattle.peak_bounds.specs.Judged.{PassesAtMoment}
+use Rattle.peak_bounds.specs.Judged.{PassesAtMoment, FailsAtMoment}
 use Rattle.peak_bounds.proofs.Verdicts.{first_failing, all_pass}
 use Rattle.peak_bounds.proofs.judging.judge_set.Goals as goal
 
@@ -15,8 +14,8 @@ returns-in-Some-2 c =
     let bound = c.args.bound in
     let i = c.loop-i.i in
     let count = ap (λ (l : List BlockerValue). length l) c.blockers-i-end.ensures in
-    let fails = subst (λ (o : Option BlockerTest). MatchOption o (PassesAtMoment system set bound (i + 1)) (λ test. ¬ Passes system set bound test (i + 1))) c.in-Some-2.is c.in_ok-test.ensures in
-    first_failing system set bound (c.in_default.ensures bound) c.in-Some-2.test i (omega (arith, c.loop-i-test.true, count)) c.loop-i.invariant fails
+    let fails = subst (λ (o : Option BlockerTest). MatchOption o (PassesAtMoment system set bound (i + 1)) (λ test. FailsAtMoment system set bound test (i + 1))) c.in-Some-2.is c.in_ok-test.ensures in
+    first_failing system set bound (c.in_default.ensures bound) i (omega (arith, c.loop-i-test.true, count)) c.loop-i.invariant c.in-Some-2.test fails
 
 pub loop-i-preserved : goal.loop-i-preserved
 loop-i-preserved c = λ k low less.
@@ -24,7 +23,7 @@ loop-i-preserved c = λ k low less.
     let set = c.args.set.now in
     let bound = c.args.bound in
     let i = c.loop-i.i in
-    let passes = subst (λ (o : Option BlockerTest). MatchOption o (PassesAtMoment system set bound (i + 1)) (λ test. ¬ Passes system set bound test (i + 1))) c.in_default-2.is c.in_ok-test.ensures in
+    let passes = subst (λ (o : Option BlockerTest). MatchOption o (PassesAtMoment system set bound (i + 1)) (λ test. FailsAtMoment system set bound test (i + 1))) c.in_default-2.is c.in_ok-test.ensures in
     elim (cases_lt k (i + 1)) [
       | inl before ↦ c.loop-i.invariant k low before
       | inr last ↦ subst (λ (j : ℕ). PassesAtMoment system set bound j) (let e : i + 1 ≡ k = omega (arith, last, less) in e) passes
