@@ -135,10 +135,11 @@ abbrev pub IsEvidence : SharedTaskSystem → Evidence → ℕ → Type 0
 IsEvidence system (Need t) bound = HasTask system t × (bound ≤ memory_of_task system t)
 IsEvidence system (Set set) bound = IsEventSet system set bound
 
--- the tests are tried one after the other: those of tasks and amounts each at all blockers, and then the others blocker by blocker. What holds
--- where a test at a place is the first that fails
+-- the tests are tried one after the other: those of tasks and amounts each at all blockers, and then the others blocker by blocker. What
+-- holds where a test at a place is the first that fails
 abbrev pub EarlierPass : SharedTaskSystem → EventSetValue → ℕ → ℕ → Type 0
-EarlierPass system set bound place = (test : BlockerTest) (earlier : ℕ) → 1 ≤ earlier → earlier < place → Passes system set bound test earlier
+EarlierPass system set bound place =
+    (test : BlockerTest) (earlier : ℕ) → 1 ≤ earlier → earlier < place → Passes system set bound test earlier
 
 abbrev pub AreFormed : SharedTaskSystem → EventSetValue → ℕ → Type 0
 AreFormed system set bound =

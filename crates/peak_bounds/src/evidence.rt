@@ -134,8 +134,8 @@ pub enum Objection {
     Empty,
     /// The amounts of the set are not told of uses, the places of which rise, or are not from -2^60 to 2^60.
     Base,
-    /// The first test that a blocker fails, with the first blocker, counted from 1, that fails it. The tests of tasks and amounts are each tried
-    /// at all blockers, and then the others blocker by blocker.
+    /// The first test that a blocker fails, with the first blocker, counted from 1, that fails it. The tests of tasks and amounts are each
+    /// tried at all blockers, and then the others blocker by blocker.
     Blocker {
         /// The test.
         test: BlockerTest,

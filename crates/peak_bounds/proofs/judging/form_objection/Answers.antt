@@ -1,11 +1,7 @@
-use Rattle.std.proofs.Common.{◌≡◌, ◌≢◌, ◌≤◌, ℕ, List, Option, Some, length, ap, sym, subst, ◌∙◌, arith}
-use Rattle.std.specs.Prelude.{MatchOption}
+use Rattle.std.proofs.Common.{◌≤◌, ℕ, List, length, sym, subst, ◌∙◌, arith}
 use Rattle.std.proofs.lemmas.Bool.{eqb-false, both_ways}
-use Rattle.lists.specs.Numbers.{Each, IsFirstWithout}
 use Rattle.peak_bounds.specs.declared.evidence.Amount.{Amount}
-use Rattle.peak_bounds.specs.declared.evidence.BlockerTest.TheVariants as tests
-use Rattle.peak_bounds.specs.EventSets.{BlockerValue}
-use Rattle.peak_bounds.specs.Evidence.{AreAmounts, use_count, Passes}
+use Rattle.peak_bounds.specs.Evidence.{AreAmounts, use_count}
 use Rattle.peak_bounds.proofs.Verdicts.{some_by, formed_by}
 use Rattle.peak_bounds.proofs.judging.form_objection.Goals as goal
 use Rattle.peak_bounds.proofs.judging.form_objection.Goals.{Else-is_empty, Else-not-are_amounts}
@@ -24,8 +20,8 @@ pub returns-then-not-are_amounts : goal.returns-then-not-are_amounts
 returns-then-not-are_amounts c = λ bound. (
   some (goal.at.returns-then-not-are_amounts c).Else-is_empty,
   λ are. both_ways c.are_amounts.result c.if-not-are_amounts.true (c.are_amounts.ensures.1
-  (subst (λ (n : ℕ). AreAmounts n c.base.result.now) (sym c.requires)
-  (subst (λ (l : List Amount). AreAmounts (use_count c.args.system.now) l) (sym c.base.ensures) are))),
+      (subst (λ (n : ℕ). AreAmounts n c.base.result.now) (sym c.requires)
+      (subst (λ (l : List Amount). AreAmounts (use_count c.args.system.now) l) (sym c.base.ensures) are))),
 )
 
 pub returns-in-Some : goal.returns-in-Some
