@@ -1,6 +1,6 @@
 -- The term of a shared system, in which joins stand where several tasks supply several others together, and the last reader of each item
 -- carries it; and the orders of the system that it tells.
-use Rattle.std.specs.Prelude.{ℕ, List, map}
+use Rattle.std.specs.Prelude.{◌≡◌, ◌⊎◌, ℕ, List, map}
 use Rattle.mp_system.specs.Renaming.{name_in}
 use Rattle.sp_terms.specs.Term.{Term}
 use Rattle.graphs.specs.Graph.{completed_system}
@@ -9,6 +9,7 @@ use Rattle.shared_systems.specs.Shared.{SharedTaskSystem}
 use Rattle.joined_systems.specs.Joined.{without_joins, IsJoinedOf}
 use Rattle.carried_graphs.specs.Carried.{AreLastReaders, carried}
 use Rattle.shared_reduce.specs.declared.refusal.SharedReduceRefusal.{SharedReduceRefusal}
+use Rattle.shared_reduce.specs.declared.refusal.SharedReduceRefusal.TheVariants.{NoMemory}
 use Rattle.shared_reduce.specs.Refusal.{IsSharedReduceRefusal}
 
 -- an order of a term's tasks tells one of a system's n tasks: by the names, without the joins, which have greater ones
@@ -27,6 +28,7 @@ pub record IsSharedTerm (system : SharedTaskSystem) (names : List ℕ) (t : Term
   pub is_joined : IsJoinedOf system joined
   pub term : IsCarriedTerm joined names t
 
--- why there is none, with its joins
+-- why there is none, with its joins; want of memory tells nothing
 abbrev pub IsRefusedTerm : SharedTaskSystem → SharedReduceRefusal → Type 0
-IsRefusedTerm system refusal = (joined : SharedTaskSystem) × IsJoinedOf system joined × IsSharedReduceRefusal joined refusal
+IsRefusedTerm system refusal =
+    (refusal ≡ NoMemory) ⊎ ((joined : SharedTaskSystem) × IsJoinedOf system joined × IsSharedReduceRefusal joined refusal)
