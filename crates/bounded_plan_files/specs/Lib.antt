@@ -1,0 +1,3 @@
+pub mod BoundedPlanFile
+pub mod Printed
+pub mod Reader
