@@ -183,7 +183,7 @@ with_blocker s line own = record s {
 -- the lines after a base or a blocker, where so many blockers are to come
 abbrev pub with_blockers : ℕ → Stated → List Row → Stated
 with_blockers zero s [] = s
-with_blockers zero s (last ∷ rows) = record s { stage = stages.Ended; blockers = blockers_at s.stage s }
+with_blockers zero s (last ∷ rows) = record s { stage = stages.Ended; own = []; blockers = blockers_at s.stage s }
 with_blockers (suc more) s [] = s
 with_blockers (suc more) s (line ∷ rows) =
     with_blockers more (with_blocker s line (map amount_on (take (own_stated line) rows))) (drop (own_stated line) rows)

@@ -44,7 +44,7 @@ abbrev pub with_own_amount : Stated → Row → Stated
 with_own_amount s row = record s { own = s.own ++ amount_on row ∷ [] }
 
 abbrev pub set_ended : Stated → Stated
-set_ended s = record s { stage = stages.Ended; blockers = blockers_at s.stage s }
+set_ended s = record s { stage = stages.Ended; own = []; blockers = blockers_at s.stage s }
 
 abbrev pub after_amounts : Stated → Row → Stated
 after_amounts s row = if s.left == 0 then set_ended s else with_blocker s row []

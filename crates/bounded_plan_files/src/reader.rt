@@ -2,11 +2,12 @@ ghost use Rattle.std.specs.Prelude.{◌≡◌, ◌≤◌, ◌<◌, [], IfOk, Mat
 ghost use Rattle.limits.specs.Limits.{most_uses};
 ghost use Rattle.mp_text.specs.Ahead.{row};
 ghost use Rattle.mp_text.specs.Reading.{Steps, tested};
+ghost use Rattle.file_frame.specs.Frame.{last_tests};
 ghost use Rattle.bounded_plans.specs.BoundedPlan.{IsBoundedPlan};
 ghost use Rattle.bounded_plan_files.specs.BoundedPlanFile.{Stated, nothing, sort_on, evidence_tests, blocker_tests, tests_after_amounts};
 ghost use Rattle.bounded_plan_files.specs.BoundedPlanFile.{blockers_at, with_blocker, bounded_plan_format, plan_stated, ReadsBoundedPlan};
-ghost use Rattle.bounded_plan_files.specs.BoundedPlanFile.{IsBoundedPlanRefusal};
-ghost use Rattle.bounded_plan_files.specs.Reader.{sort_next, after_amounts, staged_step, plan_step, plan_end, took};
+ghost use Rattle.bounded_plan_files.specs.BoundedPlanFile.{IsBoundedPlanRefusal, amount_tests};
+ghost use Rattle.bounded_plan_files.specs.Reader.{sort_next, with_base_amount, with_own_amount, set_ended, after_amounts, staged_step, plan_step, plan_end, took};
 
 use crate::NoMemory;
 use crate::lines::{
@@ -179,17 +180,46 @@ impl BoundedPlanReader {
         Ok(())
     }
 
+    // Takes `end` after all amounts.
+    fn end_line(&mut self, line: Line<'_>) -> Result<(), Refusal<PlanKind>>
+        ensures { Steps (tested (last_tests PlanKind.NoEnd (row line.entry.number line.entry.text.now)) (set_ended self.old)) result self.new }
+    {
+        end_on(line, PlanKind::NoEnd)?;
+        self.close_blocker()?;
+        self.own = Vec::new(self.alloc);
+        self.stage = Stage::Ended;
+        Ok(())
+    }
+
     // Takes the line after all amounts of the base or of a blocker: `blocker T D`, or `end` where none is to come.
     fn line_after_amounts(&mut self, line: Line<'_>) -> Result<(), Refusal<PlanKind>>
         ensures { let r = row line.entry.number line.entry.text.now in
             Steps (tested (tests_after_amounts self.old r) (after_amounts self.old r)) result self.new }
     {
-        if self.left != 0 {
-            return self.blocker_line(line);
+        if self.left == 0 {
+            self.end_line(line)
+        } else {
+            self.blocker_line(line)
         }
-        end_on(line, PlanKind::NoEnd)?;
-        self.close_blocker()?;
-        self.stage = Stage::Ended;
+    }
+
+    // Takes an amount of the base.
+    fn base_amount(&mut self, line: Line<'_>) -> Result<(), Refusal<PlanKind>>
+        ensures { let r = row line.entry.number line.entry.text.now in
+            Steps (tested (amount_tests self.old.base r) (with_base_amount self.old r)) result self.new }
+    {
+        let amount = amount_on(&self.base, line)?;
+        self.base.push(amount)?;
+        Ok(())
+    }
+
+    // Takes an amount of the blocker at hand.
+    fn own_amount(&mut self, line: Line<'_>) -> Result<(), Refusal<PlanKind>>
+        ensures { let r = row line.entry.number line.entry.text.now in
+            Steps (tested (amount_tests self.old.own r) (with_own_amount self.old r)) result self.new }
+    {
+        let amount = amount_on(&self.own, line)?;
+        self.own.push(amount)?;
         Ok(())
     }
 
@@ -199,11 +229,10 @@ impl BoundedPlanReader {
         ensures { Steps (staged_step Stage.Base self.old (row line.entry.number line.entry.text.now)) result self.new }
     {
         if (self.base.len() as u64) < self.count {
-            let amount = amount_on(&self.base, line)?;
-            self.base.push(amount)?;
-            return Ok(());
+            self.base_amount(line)
+        } else {
+            self.line_after_amounts(line)
         }
-        self.line_after_amounts(line)
     }
 
     // Takes a line after `blocker T D`.
@@ -212,11 +241,10 @@ impl BoundedPlanReader {
         ensures { Steps (staged_step Stage.Own self.old (row line.entry.number line.entry.text.now)) result self.new }
     {
         if (self.own.len() as u64) < self.count {
-            let amount = amount_on(&self.own, line)?;
-            self.own.push(amount)?;
-            return Ok(());
+            self.own_amount(line)
+        } else {
+            self.line_after_amounts(line)
         }
-        self.line_after_amounts(line)
     }
 
     // Takes `base K`.
