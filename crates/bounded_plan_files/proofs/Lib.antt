@@ -1,2 +1,3 @@
 pub mod ReaderLaws
 pub mod FormLemmas
+pub mod PrintingLemmas

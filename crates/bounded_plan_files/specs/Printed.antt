@@ -43,10 +43,14 @@ evidence_lines (Claims claims) = claim_lines claims
 abbrev pub bound_lines : ℕ → BoundEvidence → List (List (List ℕ))
 bound_lines bound evidence = section_line (codes "bound") bound ∷ (evidence_lines evidence ++ end_line ∷ [])
 
+-- the lines before them
+abbrev pub head_lines : BoundedPlanValue → List (List (List ℕ))
+head_lines plan =
+    (codes "plan" ∷ codes "3" ∷ [])
+    ∷ (task_lines (codes "order") plan.order ++ section_line (codes "peak") plan.peak ∷ [])
+
 abbrev pub bounded_plan_lines : BoundedPlanValue → List (List (List ℕ))
-bounded_plan_lines plan =
-    (codes "plan" ∷ codes "3" ∷ []) ∷ (task_lines (codes "order") plan.order
-    ++ section_line (codes "peak") plan.peak ∷ bound_lines plan.bound plan.evidence)
+bounded_plan_lines plan = head_lines plan ++ bound_lines plan.bound plan.evidence
 
 -- the text of the bound and its evidence, with `end`
 abbrev pub bound_text : ℕ → BoundEvidence → List ℕ
