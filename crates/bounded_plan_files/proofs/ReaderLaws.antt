@@ -53,7 +53,7 @@ blockers_none : (b : ℕ) (s : Stated) → with_blockers b s [] ≡ s
 blockers_none zero s = refl
 blockers_none (suc b) s = refl
 
-some_left : (n b : ℕ) → n ≡ suc b → eqb n 0 ≡ false
+pub some_left : (n b : ℕ) → n ≡ suc b → eqb n 0 ≡ false
 some_left n b e = ne_eqb n 0 (λ (z : n ≡ 0). omega (arith, e, z))
 
 -- a line that belongs to the section before all of these

@@ -5,6 +5,7 @@ ghost use Rattle.mp_text.specs.declared.refusals.Refusal.{Refusal};
 ghost use Rattle.plan_files.specs.declared.kind.PlanKind.{PlanKind};
 ghost use Rattle.bounded_plans.specs.BoundedPlan.{BoundedPlanValue, IsBoundedPlan};
 ghost use Rattle.bounded_plan_files.specs.BoundedPlanFile.{ReadsBoundedPlan, RefusesBoundedPlan};
+ghost use Rattle.bounded_plan_files.specs.Printed.{bounded_plan_text};
 
 use mp_text::laws as text_laws;
 use plan_files::PlanKind;
@@ -28,3 +29,11 @@ pub fn exactly_one()
 pub fn read_law()
     ensures { (bytes : List ℕ) (plan : BoundedPlanValue) → ReadsBoundedPlan bytes plan → IsBoundedPlan plan }
 {}
+
+/// The text of a plan is read as that plan.
+pub fn printed_plan()
+    ensures { (plan : BoundedPlanValue) → IsBoundedPlan plan → ReadsBoundedPlan (bounded_plan_text plan) plan }
+{
+    text_laws::printed_number();
+    text_laws::printed_file();
+}
