@@ -1,12 +1,12 @@
 -- What well-formed lines of a plan file of version 3 say of what they state.
-use Rattle.std.proofs.Common.{◌≡◌, ℕ, zero, suc, ◌+◌, ◌-◌, ◌<◌, ◌≤◌, inl, inr, Bool, true, false, cond, ◌&&◌, eqb, leb, ltb, List, [], ◌∷◌, ◌++◌}
+use Rattle.std.proofs.Common.{◌≡◌, ℕ, zero, suc, ◌+◌, ◌-◌, ◌<◌, ◌≤◌, inl, inr, Bool, true, false, cond, eqb, leb, ltb, List, [], ◌∷◌, ◌++◌}
 use Rattle.std.proofs.Common.{length, map, get_or, refl, sym, ap, subst, ◌∙◌, arith, unsigned_abs, is_some, None, append_assoc, append-nil}
 use Rattle.std.specs.List.{All, sum_by}
 use Rattle.std.specs.List.Sorted.{IsStrictlyIncreasing}
 use Rattle.std.proofs.lemmas.List.{length_push, length-map, get_or_append_left, get_or_push}
 use Rattle.std.proofs.lemmas.List.Elements.{All-nil, All-push}
 use Rattle.std.proofs.lemmas.List.Sums.{sum_by_push}
-use Rattle.std.proofs.lemmas.Bool.{and_parts, cases_lt, leb-true, ltb-true, ltb-false}
+use Rattle.std.proofs.lemmas.Bool.{and_parts, cases_lt, leb-true, ltb-true}
 use Rattle.limits.specs.Limits.{most_tasks, most_positions, most_total, most_uses}
 use Rattle.mp_text.specs.declared.layout.Layout.TheVariants.{Commented}
 use Rattle.mp_text.specs.Text.{Row, signed_of}
@@ -18,7 +18,7 @@ use Rattle.plans.specs.Plan.{most_number, IsClaimWithin, RiseFrom}
 use Rattle.plans.specs.declared.claim.Claim.{Claim}
 use Rattle.plans.proofs.Rising.{rise_push}
 use Rattle.plan_files.specs.declared.kind.PlanKind.TheVariants as kinds
-use Rattle.plan_files.specs.PlanFile.{is_number_up_to, is_bound, bound_of, task_on, claim_on, last_position, claim_tests, order_tests, peak_tests}
+use Rattle.plan_files.specs.PlanFile.{is_number_up_to, is_bound, bound_of, task_on, claim_on, claim_tests, order_tests, peak_tests}
 use Rattle.plan_files.proofs.FormLemmas.{up_to, hold, order-test, claim-test, last_position_is}
 use Rattle.peak_bounds.specs.declared.evidence.Amount.{Amount}
 use Rattle.peak_bounds.specs.EventSets.{BlockerValue}
@@ -180,17 +180,21 @@ sort-passed : (sort : Sort) (s : Stated) (row : Row) → HasHead s → s.blocker
 sort-passed sorts.Need s row so none passed = (so, (refl, leb-true _ _ (hold _ _ _ _ _ _ passed).1))
 sort-passed sorts.First s row so none passed = (so, (tt, leb-true _ _ (hold _ _ _ _ _ _ passed).1, none))
 sort-passed sorts.Last s row so none passed = (so, (tt, leb-true _ _ (hold _ _ _ _ _ _ passed).1, none))
-sort-passed sorts.Claims s row so none passed = (so, (
-  refl,
-  leb-true _ _ (hold _ _ _ _ _ _ passed).1,
-  record { within = omega arith; each = All-nil IsClaimWithin; rising = tt },
-))
+sort-passed sorts.Claims s row so none passed = (
+  so,
+  (
+    refl,
+    leb-true _ _ (hold _ _ _ _ _ _ passed).1,
+    record { within = omega arith; each = All-nil IsClaimWithin; rising = tt },
+  ),
+)
 
 claims-passed : (s : Stated) (row : Row) → s.stage ≡ stages.Claims → HasHead s → At stages.Claims s
     → first_failure (staged_tests stages.Claims s row) ≡ None → Holds (staged_next stages.Claims s row)
 claims-passed s row stage so at = go (ltb (length s.claims) s.count) refl where
   are : AreClaims s.count s.claims
   are = at.2
+
   go : (b : Bool) → ltb (length s.claims) s.count ≡ b
       → first_failure (cond b (claim_tests s.claims row) (last_tests kinds.NoEnd row)) ≡ None
       → Holds (cond b (with_claim s row) (record s { stage = stages.Ended }))
@@ -199,19 +203,23 @@ claims-passed s row stage so at = go (ltb (length s.claims) s.count) refl where
       let lt = ltb-true _ _ e in
       let long = length_push s.claims (claim_on row) in (
         so,
-        subst (λ (st : Stage). At st (with_claim s row)) (sym stage) (at.0, at.1, record {
-          within = omega arith;
-          each = All-push IsClaimWithin s.claims (claim_on row) are.each claim.0;
-          rising = rise_push 0 s.claims (claim_on row) are.rising
-              (subst (λ (n : ℕ). n < (claim_on row).position) (last_position_is s.claims) claim.1);
-        }),
+        subst (λ (st : Stage). At st (with_claim s row)) (sym stage) (
+          at.0,
+          at.1,
+          record {
+            within = omega arith;
+            each = All-push IsClaimWithin s.claims (claim_on row) are.each claim.0;
+            rising = rise_push 0 s.claims (claim_on row) are.rising
+                (subst (λ (n : ℕ). n < (claim_on row).position) (last_position_is s.claims) claim.1);
+          },
+        ),
       )
   go false e passed =
       let within = are.within in
       let few = at.1 in (
         so,
         subst (λ (sort : Sort). IsWithin (evidence_stated sort (record s { stage = stages.Ended }))) (sym at.0)
-        (record { few = omega arith; each = are.each; rising = are.rising }),
+            (record { few = omega arith; each = are.each; rising = are.rising }),
       )
 
 -- ---- after all amounts
@@ -357,15 +365,18 @@ line-passed stages.Bound s row e so at passed = (
 )
 line-passed stages.Evidence s row e so at passed = sort-passed (sort_on row) s row so at passed
 line-passed stages.Claims s row e so at passed = claims-passed s row e so at passed
-line-passed stages.BaseSection s row e so at passed = (so, record {
-  sort = at.0;
-  few = at.1;
-  none = at.2;
-  uses = refl;
-  most = leb-true _ _ (hold _ _ _ _ _ _ passed).1;
-  within = omega arith;
-  base = no_amounts;
-})
+line-passed stages.BaseSection s row e so at passed = (
+  so,
+  record {
+    sort = at.0;
+    few = at.1;
+    none = at.2;
+    uses = refl;
+    most = leb-true _ _ (hold _ _ _ _ _ _ passed).1;
+    within = omega arith;
+    base = no_amounts;
+  },
+)
 line-passed stages.Base s row e so at passed = base-passed s row e so at passed
 line-passed stages.Own s row e so at passed = own-passed s row e so at passed
 line-passed stages.End s row e so at passed = (

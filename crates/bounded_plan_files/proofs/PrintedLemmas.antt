@@ -1,6 +1,6 @@
 -- A printed plan of version 3 is read as it was: its lines pass, one after another, and state it.
-use Rattle.std.proofs.Common.{◌≡◌, ℕ, ◌+◌, ◌-◌, ◌<◌, ◌≤◌, true, false, eqb, leb, ltb, List, [], ◌∷◌, ◌++◌, length, map, get_or, refl}
-use Rattle.std.proofs.Common.{sym, ap, subst, ◌∙◌, arith, ℤ, unsigned_abs, Some, None, append_assoc, append-nil, length-append}
+use Rattle.std.proofs.Common.{◌≡◌, ℕ, ◌+◌, ◌-◌, ◌<◌, ◌≤◌, true, false, ltb, List, [], ◌∷◌, ◌++◌, length, map, get_or, refl}
+use Rattle.std.proofs.Common.{sym, ap, subst, ◌∙◌, arith, unsigned_abs, Some, None, append_assoc, append-nil, length-append}
 use Rattle.std.specs.Fmt.{decimal, signed_decimal}
 use Rattle.std.specs.Prelude.{codes}
 use Rattle.std.specs.List.{All, sum_by, flat_map}
@@ -9,7 +9,7 @@ use Rattle.std.proofs.lemmas.Bool.{le-leb, lt-ltb, le-ltb}
 use Rattle.std.proofs.lemmas.List.{length-map, get_or_append_left, get_or_at}
 use Rattle.std.proofs.lemmas.List.Elements.{All-head, All-tail}
 use Rattle.std.proofs.lemmas.List.Sums.{sum_by-cons}
-use Rattle.limits.specs.Limits.{most_tasks, most_positions, most_total, most_uses}
+use Rattle.limits.specs.Limits.{most_total, most_uses}
 use Rattle.mp_text.specs.Text.{Row, number_of, signed_of}
 use Rattle.mp_text.specs.Grammar.{first_failure}
 use Rattle.mp_text.specs.Report.{numbered_from}
@@ -26,7 +26,7 @@ use Rattle.peak_bounds.specs.declared.evidence.Amount.{Amount}
 use Rattle.peak_bounds.specs.EventSets.{BlockerValue, EventSetValue}
 use Rattle.peak_bounds.specs.Evidence.{IsAmount, AreAmounts, place_of}
 use Rattle.peak_bounds.proofs.Told.{no_amount, place_at}
-use Rattle.bounded_plans.specs.BoundedPlan.{own_count, amount_count, IsBlockerWithin, IsSetWithin, AreClaimsWithin}
+use Rattle.bounded_plans.specs.BoundedPlan.{own_count, IsBlockerWithin, IsSetWithin}
 use Rattle.bounded_plan_files.specs.BoundedPlanFile.{Stated, stated, tests_after, tests_after_amounts, amount_tests, amount_on, last_place, blockers_at}
 use Rattle.bounded_plan_files.specs.Printed.{amount_line, blocker_line, blocker_lines}
 use Rattle.bounded_plan_files.specs.Reader.{next, after_amounts, set_ended}
@@ -240,9 +240,9 @@ base-full s base row =
 
 pub base-leads : AreLaws → (s : Stated) (sort : Sort) (set : EventSetValue) → IsSetWithin set
     → LeadsOn (at_section s sort (length set.blockers))
-      (section_line (codes "base") (length set.base)
-      ∷ ((map amount_line set.base ++ flat_map blocker_lines set.blockers) ++ end_line ∷ []))
-      (after_blockers (at_base (at_section s sort (length set.blockers)) (length set.base) set.base) set.blockers)
+    (section_line (codes "base") (length set.base)
+    ∷ ((map amount_line set.base ++ flat_map blocker_lines set.blockers) ++ end_line ∷ []))
+    (after_blockers (at_base (at_section s sort (length set.blockers)) (length set.base) set.base) set.blockers)
 unfolding Leads after_word
 base-leads laws s sort set is n =
     let few = is.few_amounts in

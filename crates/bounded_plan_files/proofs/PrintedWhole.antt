@@ -11,7 +11,7 @@ use Rattle.std.proofs.lemmas.List.Sums.{sum_by-cons}
 use Rattle.std.proofs.lemmas.List.Folds.{list_all-append}
 use Rattle.limits.specs.Limits.{most_tasks, most_positions, most_total, most_uses}
 use Rattle.mp_text.specs.declared.layout.Layout.TheVariants.{Commented}
-use Rattle.mp_text.specs.Text.{Row, number_of}
+use Rattle.mp_text.specs.Text.{number_of}
 use Rattle.mp_text.specs.Ahead.{rows_of_bytes, past_of_bytes}
 use Rattle.mp_text.specs.Grammar.{first_failure, ArePassed}
 use Rattle.mp_text.specs.Report.{is_counted, is_token, numbered_from, text_of_lines}
@@ -23,7 +23,7 @@ use Rattle.plans.specs.Plan.{most_number, IsClaimWithin}
 use Rattle.plans.specs.declared.claim.Claim.{Claim}
 use Rattle.plans.specs.declared.claim.Direction.{Direction}
 use Rattle.plans.specs.declared.claim.Direction.TheVariants.{Forward, Backward}
-use Rattle.plan_files.specs.Printed.{task_line, claim_line, claim_lines, dir_word, task_lines}
+use Rattle.plan_files.specs.Printed.{task_line, claim_line, dir_word}
 use Rattle.plan_files.proofs.PrintedLemmas.{bound-fits}
 use Rattle.peak_bounds.specs.declared.step.Event.{Event}
 use Rattle.peak_bounds.specs.declared.step.Event.TheVariants as events

@@ -1,5 +1,5 @@
 -- What the reader of plan files of version 3 does with a line, and with the end, is what the tests of the format say.
-use Rattle.std.specs.Prelude.{◌≡◌, ◌==◌, ℕ, zero, suc, ◌-◌, false, nat_lt, List, [], ◌∷◌, ◌++◌, length, map, take, drop, codes, refl}
+use Rattle.std.specs.Prelude.{◌≡◌, ℕ, zero, suc, ◌-◌, false, nat_lt, List, [], ◌∷◌, ◌++◌, length, map, take, drop, codes, refl}
 use Rattle.std.proofs.Common.{sym, ap, ◌∙◌, arith, inl, inr, eqb}
 use Rattle.std.proofs.Math.Seq.{take-nil, drop-nil}
 use Rattle.std.proofs.lemmas.Bool.{ne_eqb}
@@ -12,7 +12,7 @@ use Rattle.plans.specs.declared.claim.Claim.{Claim}
 use Rattle.peak_bounds.specs.declared.evidence.Amount.{Amount}
 use Rattle.plan_files.specs.PlanFile.{task_on, claim_on}
 use Rattle.plan_files.proofs.ReaderLaws.{within_or_past}
-use Rattle.bounded_plan_files.specs.BoundedPlanFile.{Stated, stated, nothing, sort_on, amount_on, own_stated, blockers_at, with_blocker}
+use Rattle.bounded_plan_files.specs.BoundedPlanFile.{Stated, stated, nothing, sort_on, amount_on, own_stated, with_blocker}
 use Rattle.bounded_plan_files.specs.BoundedPlanFile.{with_end, with_claims, with_blockers, with_base, with_sort, with_evidence, with_bound}
 use Rattle.bounded_plan_files.specs.BoundedPlanFile.{with_peak, with_order, bounded_plan_format, tests_after, end_tests_after}
 use Rattle.bounded_plan_files.specs.Reader.{next, sort_next, plan_step, plan_end, took}

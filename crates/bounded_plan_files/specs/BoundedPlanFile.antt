@@ -1,6 +1,6 @@
 -- Plan files of version 3, which have a bound and evidence for it: what a file reads as, and what it is refused with. They are this project's
 -- own format. The lines of tasks, of the peak and of claims are those of versions 1 and 2, in `plan_files`.
-use Rattle.std.specs.Prelude.{◌≡◌, ◌==◌, ℕ, suc, zero, ◌+◌, ◌-◌, Bool, true, false, ◌&&◌, nat_lt, nat_le, is_some, unwrap_or, ℤ, pos}
+use Rattle.std.specs.Prelude.{◌≡◌, ◌==◌, ℕ, suc, zero, ◌+◌, ◌-◌, Bool, true, false, ◌&&◌, nat_lt, nat_le, is_some, unwrap_or, pos}
 use Rattle.std.specs.Prelude.{Option, Some, None, List, [], ◌∷◌, ◌++◌, length, map, take, drop, codes, if◌then◌else◌, slice_index_or, find}
 use Rattle.std.specs.Str.{bytes_eq}
 use Rattle.limits.specs.Limits.{most_tasks, most_total, most_uses}

@@ -1,6 +1,6 @@
 -- No public clause names this.
 -- Worked examples: the plan of a tree of five nodes with a set of two blockers as its evidence, and files that are refused.
-use Rattle.std.specs.Prelude.{◌≡◌, ℕ, ◌+◌, List, [], ◌∷◌, ◌++◌, map, Option, Some, None, codes, refl}
+use Rattle.std.specs.Prelude.{◌≡◌, ℕ, List, [], ◌∷◌, ◌++◌, map, Option, Some, None, codes, refl}
 use Rattle.std.specs.Fmt.{decimal, digits}
 use Rattle.limits.specs.Limits.{most_uses}
 use Rattle.limits.specs.declared.name.LimitName.TheVariants as limits

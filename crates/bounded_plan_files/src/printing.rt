@@ -90,14 +90,22 @@ fn print_evidence(evidence: &BoundEvidence, report: &mut Report) -> Result<(), N
 {
     printed_lines();
     match evidence {
-        BoundEvidence::Sums(Evidence::Need(task)) => print_section("need", u64::from(*task), report),
+        BoundEvidence::Sums(Evidence::Need(task)) => print_section(
+            "need",
+            u64::from(*task),
+            report,
+        ),
         BoundEvidence::Sums(Evidence::Set(set)) => print_set(set, report),
         BoundEvidence::Claims(claims) => print_claims(claims.claims(), report),
     }
 }
 
 // The lines of the bound and its evidence, or some bytes.
-fn print_bound_lines(bound: u64, evidence: &BoundEvidence, report: &mut Report) -> Result<(), NoMemory>
+fn print_bound_lines(
+    bound: u64,
+    evidence: &BoundEvidence,
+    report: &mut Report,
+) -> Result<(), NoMemory>
     requires { IsTrue (is_line_start report.old) }
     ensures ok { OnOk result (report.new ≡ report.old ++ bound_text bound evidence.now) }
     ensures err { OnErr result (take (length report.old) report.new ≡ report.old) }
@@ -135,7 +143,11 @@ fn print_lines(plan: &BoundedPlan, report: &mut Report) -> Result<(), NoMemory>
 /// Appends the lines of a bound and its evidence, from `bound L` to `end`. Linear in the evidence.
 ///
 /// Where memory runs out, the report stays as it was.
-pub fn print_bound(bound: u64, evidence: &BoundEvidence, report: &mut Report) -> Result<(), NoMemory>
+pub fn print_bound(
+    bound: u64,
+    evidence: &BoundEvidence,
+    report: &mut Report,
+) -> Result<(), NoMemory>
     requires { IsTrue (is_line_start report.old) }
     ensures ok { OnOk result (report.new ≡ report.old ++ bound_text bound evidence.now) }
     ensures err { OnErr result (report.new ≡ report.old) }
@@ -149,6 +161,9 @@ pub fn print_bound(bound: u64, evidence: &BoundEvidence, report: &mut Report) ->
 }
 
 /// Appends the lines of a plan file of version 3. Linear in the tasks and the evidence.
+///
+/// The text of a plan with claims or a need is shorter than a file may be. That of a set need not be: an amount takes up to 32 bytes, and
+/// there may be 10,000,000 of them. It is then refused where a file is read, by its bytes.
 ///
 /// Where memory runs out, the report stays as it was.
 pub fn print_bounded_plan(plan: &BoundedPlan, report: &mut Report) -> Result<(), NoMemory>

@@ -152,8 +152,8 @@ impl BoundedPlanReader {
     // Puts the blocker at hand, if there is one, behind those before it.
     fn close_blocker(&mut self) -> Result<(), NoMemory>
         ensures { IfOk result (λ _. self.new ≡ record self.old {
-            blockers = blockers_at self.old.stage self.old;
-            own = self.new.own;
+          blockers = blockers_at self.old.stage self.old;
+          own = self.new.own;
         }) }
     {
         if self.stage == Stage::Own {
@@ -329,8 +329,16 @@ impl BoundedPlanReader {
         } = self;
         let evidence = match sort {
             Sort::Need => BoundEvidence::Sums(Evidence::Need(task)),
-            Sort::First => BoundEvidence::Sums(Evidence::Set(EventSet::new(Event::First, base, blockers))),
-            Sort::Last => BoundEvidence::Sums(Evidence::Set(EventSet::new(Event::Last, base, blockers))),
+            Sort::First => BoundEvidence::Sums(Evidence::Set(EventSet::new(
+                Event::First,
+                base,
+                blockers,
+            ))),
+            Sort::Last => BoundEvidence::Sums(Evidence::Set(EventSet::new(
+                Event::Last,
+                base,
+                blockers,
+            ))),
             Sort::Claims => BoundEvidence::Claims(ClaimList::new(claims)),
         };
         BoundedPlan::new(order, peak, bound, evidence)

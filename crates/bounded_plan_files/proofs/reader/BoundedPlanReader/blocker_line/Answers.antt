@@ -1,4 +1,3 @@
-use Rattle.std.proofs.Common.{[]}
 use Rattle.std.proofs.lemmas.Result.{err_from_is_err_and}
 use Rattle.mp_text.specs.Ahead.{row}
 use Rattle.mp_text.specs.ReadingLaws.{Fails-tested}
