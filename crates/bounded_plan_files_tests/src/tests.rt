@@ -55,23 +55,67 @@ const REFUSED: [(&str, u64, PlanKind); 14] = [
     ("plan 3 3\n", 1, PlanKind::Header),
     ("plan 3\norder 0\npeak 0\nneed 1\n", 4, PlanKind::Section),
     ("plan 3\norder 0\npeak 0\nbound x\n", 4, PlanKind::Number),
-    ("plan 3\norder 0\npeak 0\nbound 0\nsome 1\n", 5, PlanKind::Section),
-    ("plan 3\norder 0\npeak 0\nbound 0\nneed 4294967296\n", 5, PlanKind::Number),
-    ("plan 3\norder 0\npeak 0\nbound 0\nneed 1\n", 6, PlanKind::NoEnd),
-    ("plan 3\norder 0\npeak 0\nbound 0\nfirst 1\nblocker 1 0\n", 6, PlanKind::Section),
-    ("plan 3\norder 0\npeak 0\nbound 0\nlast 1\nbase 0\nend\n", 7, PlanKind::Section),
-    ("plan 3\norder 0\npeak 0\nbound 0\nlast 0\nbase 0\nblocker 1 0\n", 7, PlanKind::NoEnd),
-    ("plan 3\norder 0\npeak 0\nbound 0\nlast 0\nbase 1\n1\n", 7, PlanKind::Amount),
-    ("plan 3\norder 0\npeak 0\nbound 0\nlast 0\nbase 1\n0 1\n", 7, PlanKind::Amount),
-    ("plan 3\norder 0\npeak 0\nbound 0\nlast 0\nbase 1\n1 1152921504606846977\n", 7, PlanKind::Number),
-    ("plan 3\norder 0\npeak 0\nbound 0\nlast 0\nbase 2\n2 1\n2 1\n", 8, PlanKind::Amount),
+    (
+        "plan 3\norder 0\npeak 0\nbound 0\nsome 1\n",
+        5,
+        PlanKind::Section,
+    ),
+    (
+        "plan 3\norder 0\npeak 0\nbound 0\nneed 4294967296\n",
+        5,
+        PlanKind::Number,
+    ),
+    (
+        "plan 3\norder 0\npeak 0\nbound 0\nneed 1\n",
+        6,
+        PlanKind::NoEnd,
+    ),
+    (
+        "plan 3\norder 0\npeak 0\nbound 0\nfirst 1\nblocker 1 0\n",
+        6,
+        PlanKind::Section,
+    ),
+    (
+        "plan 3\norder 0\npeak 0\nbound 0\nlast 1\nbase 0\nend\n",
+        7,
+        PlanKind::Section,
+    ),
+    (
+        "plan 3\norder 0\npeak 0\nbound 0\nlast 0\nbase 0\nblocker 1 0\n",
+        7,
+        PlanKind::NoEnd,
+    ),
+    (
+        "plan 3\norder 0\npeak 0\nbound 0\nlast 0\nbase 1\n1\n",
+        7,
+        PlanKind::Amount,
+    ),
+    (
+        "plan 3\norder 0\npeak 0\nbound 0\nlast 0\nbase 1\n0 1\n",
+        7,
+        PlanKind::Amount,
+    ),
+    (
+        "plan 3\norder 0\npeak 0\nbound 0\nlast 0\nbase 1\n1 1152921504606846977\n",
+        7,
+        PlanKind::Number,
+    ),
+    (
+        "plan 3\norder 0\npeak 0\nbound 0\nlast 0\nbase 2\n2 1\n2 1\n",
+        8,
+        PlanKind::Amount,
+    ),
 ];
 
 #[test]
 fn refuses_the_first_fault(rt: HostRuntime) -> Result<(), Fail> {
     let alloc = rt.alloc();
     for (text, line, kind) in REFUSED {
-        assert_eq!(rt; read_bounded_plan(alloc, text.as_bytes()).err(), Some(fault(line, kind)), "{text}");
+        assert_eq!(rt;
+            read_bounded_plan(alloc, text.as_bytes()).err(),
+            Some(fault(line, kind)),
+            "{text}"
+        );
     }
     Ok(())
 }
