@@ -32,17 +32,17 @@ use Rattle.plan_files.specs.declared.kind.PlanKind.TheVariants as kinds
 
 -- ---- tests that hold
 
-up_to : (most : ℕ) (token : List ℕ) → is_number_up_to most token ≡ true → value_of token ≤ most
+pub up_to : (most : ℕ) (token : List ℕ) → is_number_up_to most token ≡ true → value_of token ≤ most
 up_to most token e = leb-true _ _ (and_parts _ _ e).1
 
 -- of three tests that hold, the second and the third
-hold : {K : Type 0} (a b c : Bool) (r s t : Refusal K)
+pub hold : {K : Type 0} (a b c : Bool) (r s t : Refusal K)
     → first_failure (test a r ∷ test b s ∷ test c t ∷ []) ≡ None → (b ≡ true) × (c ≡ true)
 hold a b c r s t none =
     let two = passes _ _ _ (passes _ _ _ none).1 in
     (two.0, (passes _ _ _ two.1).0)
 
-order-test : (row : Row) → first_failure (order_tests row) ≡ None → task_on row ≤ most_number
+pub order-test : (row : Row) → first_failure (order_tests row) ≡ None → task_on row ≤ most_number
 order-test row passed = up_to most_number (token_at 0 row) (passes _ _ _ (passes _ _ _ passed).1).0
 
 priority-test : (tasks : ℕ) (before : List ℕ) (row : Row) → first_failure (priority_tests tasks before row) ≡ None
@@ -53,7 +53,7 @@ priority-test tasks before row passed =
     let task = and_parts (leb 1 v) (leb v tasks) all.0 in
     ((leb-true 1 v task.0, leb-true v tasks task.1), eqb-true (times before v) 0 all.1)
 
-claim-test : (before : List Claim) (row : Row) → first_failure (claim_tests before row) ≡ None
+pub claim-test : (before : List Claim) (row : Row) → first_failure (claim_tests before row) ≡ None
     → IsClaimWithin (claim_on row) × (last_position before < (claim_on row).position)
 claim-test before row passed =
     let both = hold _ _ _ _ _ _ passed in
@@ -71,7 +71,7 @@ claim-test before row passed =
 
 -- ---- positions that rise
 
-last_position_is : (cs : List Claim) → last_position cs ≡ last_from 0 cs
+pub last_position_is : (cs : List Claim) → last_position cs ≡ last_from 0 cs
 unfolding last_from
 last_position_is [] = refl
 last_position_is (c ∷ cs) = last_is 0 c cs

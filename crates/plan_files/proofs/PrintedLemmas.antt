@@ -122,7 +122,7 @@ priority-fits n xs (inr ranks) = let len = ranks.len in (omega arith, or_right _
 
 -- ---- claim lines
 
-dir-reads : (d : Direction) → dir_named (dir_word d) ≡ Some d
+pub dir-reads : (d : Direction) → dir_named (dir_word d) ≡ Some d
 unfolding dir_named
 dir-reads Forward = refl
 dir-reads Backward = refl

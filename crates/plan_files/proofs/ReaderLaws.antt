@@ -20,19 +20,19 @@ use Rattle.file_frame.specs.Frame.{stated_on}
 -- ---- a section of n lines, and one line more
 
 -- the line belongs to it
-record IsWithin {X Y : Type 0} (f : X → Y) (n : ℕ) (xs : List X) (x : X) : Type 0 where
-  more : map f (take n (xs ++ x ∷ [])) ≡ map f (take n xs) ++ f x ∷ []
-  none : drop n xs ≡ []
-  still_none : drop n (xs ++ x ∷ []) ≡ []
-  open_yet : nat_lt (length (map f (take n xs))) n ≡ true
+pub record IsWithin {X Y : Type 0} (f : X → Y) (n : ℕ) (xs : List X) (x : X) : Type 0 where
+  pub more : map f (take n (xs ++ x ∷ [])) ≡ map f (take n xs) ++ f x ∷ []
+  pub none : drop n xs ≡ []
+  pub still_none : drop n (xs ++ x ∷ []) ≡ []
+  pub open_yet : nat_lt (length (map f (take n xs))) n ≡ true
 
 -- the line comes after it
-record IsPast {X Y : Type 0} (f : X → Y) (n : ℕ) (xs : List X) (x : X) : Type 0 where
-  same : map f (take n (xs ++ x ∷ [])) ≡ map f (take n xs)
-  later : drop n (xs ++ x ∷ []) ≡ drop n xs ++ x ∷ []
-  full : nat_lt (length (map f (take n xs))) n ≡ false
+pub record IsPast {X Y : Type 0} (f : X → Y) (n : ℕ) (xs : List X) (x : X) : Type 0 where
+  pub same : map f (take n (xs ++ x ∷ [])) ≡ map f (take n xs)
+  pub later : drop n (xs ++ x ∷ []) ≡ drop n xs ++ x ∷ []
+  pub full : nat_lt (length (map f (take n xs))) n ≡ false
 
-within_or_past : {X Y : Type 0} (f : X → Y) (n : ℕ) (xs : List X) (x : X) → IsWithin f n xs x ⊎ IsPast f n xs x
+pub within_or_past : {X Y : Type 0} (f : X → Y) (n : ℕ) (xs : List X) (x : X) → IsWithin f n xs x ⊎ IsPast f n xs x
 within_or_past f n xs x =
     elim (cases_Bool (nat_lt (length xs) n)) [
       | inl e ↦

@@ -1,7 +1,7 @@
 -- The words of what is wrong with a plan file.
 use Rattle.std.specs.Prelude.{ℕ, List, codes}
 use Rattle.plan_files.specs.declared.kind.PlanKind.{PlanKind}
-use Rattle.plan_files.specs.declared.kind.PlanKind.TheVariants.{Header, Number, Section, Order, Claim, NoEnd, Priority}
+use Rattle.plan_files.specs.declared.kind.PlanKind.TheVariants.{Header, Number, Section, Order, Claim, NoEnd, Priority, Amount}
 
 -- the word for it in reports
 abbrev pub word_of : PlanKind → List ℕ
@@ -12,3 +12,4 @@ word_of Order = codes "order"
 word_of Claim = codes "claim"
 word_of NoEnd = codes "no-end"
 word_of Priority = codes "priority"
+word_of Amount = codes "amount"

@@ -6,7 +6,7 @@ use std::fmt::{self, Display, Formatter, Write};
 /// What is wrong with a plan file.
 #[derive(Clone, Copy, Debug, PartialEq, Eq)]
 pub enum PlanKind {
-    /// Line 1 is not `plan 1` or `plan 2`.
+    /// Line 1 is not `plan` and a version that is read here.
     Header = 1,
     /// A word is no number, or a number is out of its range.
     Number,
@@ -20,6 +20,8 @@ pub enum PlanKind {
     NoEnd,
     /// A priority ranks neither all tasks nor none, a priority line has not one word, or its task is none or stood before.
     Priority,
+    /// An amount line has not two words, or its place does not rise. No file of version 1 or 2 has one.
+    Amount,
 }
 
 impl Kind for PlanKind {
@@ -34,6 +36,7 @@ impl Kind for PlanKind {
             PlanKind::Claim => "claim",
             PlanKind::NoEnd => "no-end",
             PlanKind::Priority => "priority",
+            PlanKind::Amount => "amount",
         }
     }
 }

@@ -11,7 +11,11 @@ mod stage;
 
 pub use json_text::{PlanJson, plan_json, send_claim};
 pub use kind::PlanKind;
-pub use printing::{print_plan, print_plan_2};
+pub use lines::{
+    MOST_NUMBER, bound_of, claim_on, claims_section_on, number_up_to, order_on, order_section_on,
+    peak_on,
+};
+pub use printing::{print_claims, print_plan, print_plan_2, print_tasks};
 pub use reader::read_plan;
 use std::alloc::AllocError;
 

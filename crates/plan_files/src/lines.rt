@@ -18,19 +18,19 @@ use mp_text::{Line, Refusal, fault, number, signed, tokens};
 use permutations::PartialPerm;
 use plans::{Claim, Direction};
 
-// The greatest number of a task or a position.
-const MOST_NUMBER: u64 = 4_294_967_295;
+/// The greatest number of a task or a position.
+pub const MOST_NUMBER: u64 = 4_294_967_295;
 
-// The number that a token spells, if it is at most this.
-fn number_up_to(most: u64, token: &[u8]) -> Option<u64>
+/// The number that a token spells, if it is at most this.
+pub fn number_up_to(most: u64, token: &[u8]) -> Option<u64>
     ensures { MatchOption result (is_number_up_to most token.now ≡ false) (λ n. (number_of token.now ≡ Some n) × (n ≤ most)) }
 {
     let value = number(token)?;
     (value <= most).then_some(value)
 }
 
-// The bound that a token spells, if it is from -2^60 to 2^60.
-fn bound_of(token: &[u8]) -> Option<i64>
+/// The bound that a token spells, if it is from -2^60 to 2^60.
+pub fn bound_of(token: &[u8]) -> Option<i64>
     ensures { MatchOption result (is_bound token.now ≡ false) (λ z. (signed_of token.now ≡ Some z) × (unsigned_abs z ≤ most_total)) }
 {
     let value = signed(token)?;

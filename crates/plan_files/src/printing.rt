@@ -21,8 +21,8 @@ pub fn dir_word(dir: Direction) -> &'static str
     }
 }
 
-// How many tasks there are, and each on a line.
-fn print_tasks(word: &str, tasks: &[u32], report: &mut Report) -> Result<(), NoMemory>
+/// How many tasks there are, behind this word, and each on a line.
+pub fn print_tasks(word: &str, tasks: &[u32], report: &mut Report) -> Result<(), NoMemory>
     requires token { IsTrue (is_token word.now) }
     requires start { IsTrue (is_line_start report.old) }
     ensures ok { OnOk result (report.new ≡ report.old ++ text_of_lines (task_lines word.now tasks.now)) }
@@ -37,7 +37,8 @@ fn print_tasks(word: &str, tasks: &[u32], report: &mut Report) -> Result<(), NoM
     Ok(())
 }
 
-fn print_claims(claims: &[Claim], report: &mut Report) -> Result<(), NoMemory>
+/// How many claims there are, and each on a line.
+pub fn print_claims(claims: &[Claim], report: &mut Report) -> Result<(), NoMemory>
     requires { IsTrue (is_line_start report.old) }
     ensures ok { OnOk result (report.new ≡ report.old ++ text_of_lines (claim_lines claims.now)) }
     ensures start { OnOk result (IsTrue (is_line_start report.new)) }

@@ -1,0 +1,5 @@
+pub mod ReaderLaws
+pub mod FormLemmas
+pub mod PrintingLemmas
+pub mod PrintedLemmas
+pub mod PrintedWhole

@@ -1,0 +1,4 @@
+pub mod BoundedPlanFile
+pub mod Printed
+pub mod Reader
+pub mod Samples

@@ -1,0 +1,81 @@
+-- No public clause names this.
+-- Worked examples: the plan of a tree of five nodes with a set of two blockers as its evidence, and files that are refused.
+use Rattle.std.specs.Prelude.{◌≡◌, ℕ, List, [], ◌∷◌, ◌++◌, map, Option, Some, None, codes, refl}
+use Rattle.std.specs.Fmt.{decimal, digits}
+use Rattle.limits.specs.Limits.{most_uses}
+use Rattle.limits.specs.declared.name.LimitName.TheVariants as limits
+use Rattle.mp_text.specs.declared.layout.Layout.TheVariants.{Commented}
+use Rattle.mp_text.specs.declared.refusals.Refusal.{Refusal}
+use Rattle.mp_text.specs.declared.refusals.Refusal.TheVariants as refusals
+use Rattle.mp_text.specs.Text.{lines_of, tokens_of, number_of, number_from, signed_of, rows_from}
+use Rattle.mp_text.specs.Ahead.{rows_of_bytes, past_of_bytes}
+use Rattle.mp_text.specs.Grammar.{fault_at, first_failure, tests_of_all}
+use Rattle.file_frame.specs.Words.{after_word}
+use Rattle.plan_files.specs.PlanFile.{dir_named}
+use Rattle.plan_files.specs.declared.kind.PlanKind.{PlanKind}
+use Rattle.plan_files.specs.declared.kind.PlanKind.TheVariants as kinds
+use Rattle.peak_bounds.specs.Samples.{leaves}
+use Rattle.peak_bounds.specs.declared.evidence.Evidence.TheVariants.{Need, Set}
+use Rattle.bounded_plans.specs.BoundedPlan.{BoundedPlanValue}
+use Rattle.bounded_plans.specs.declared.evidence.BoundEvidence.TheVariants.{Sums}
+use Rattle.bounded_plan_files.specs.BoundedPlanFile.{sort_named, stated, plan_stated, bounded_plan_format}
+use Rattle.bounded_plan_files.specs.Printed.{bounded_plan_text, bound_text}
+
+-- one of the leaves starts last, and then the memory is 11; the task that reads most needs 10
+abbrev pub five : BoundedPlanValue
+five = record { order = 1 ∷ 3 ∷ 2 ∷ 4 ∷ 5 ∷ []; peak = 11; bound = 11; evidence = Sums (Set leaves) }
+
+-- ---- printing
+
+pub printed : bounded_plan_text five
+    ≡ codes "plan 3\norder 5\n1\n3\n2\n4\n5\npeak 11\n"
+    ++ codes "bound 11\nlast 2\nbase 2\n1 1\n2 1\nblocker 1 4\n1 0\n2 0\n3 1\n4 1\nblocker 3 0\nend\n"
+unfolding digits
+printed = refl
+
+pub printed_need : bound_text 10 (Sums (Need 5)) ≡ codes "bound 10\nneed 5\nend\n"
+unfolding digits
+printed_need = refl
+
+-- ---- reading
+
+pub stated_plan : plan_stated (stated (rows_of_bytes Commented (
+    codes "plan 3\norder 5\n1\n3\n2\n4\n5\npeak 11\n# by the leaves\nbound 11\nlast 2\nbase 2\n1 1\n2 1\n"
+    ++ codes "blocker 1 4\n1 0\n2 -0\n3 01\n4 1\nblocker 3 0\nend"))) ≡ five
+unfolding lines_of tokens_of number_of number_from signed_of rows_from after_word sort_named stated
+stated_plan = refl
+
+-- the first test of a file's lines and of its end that fails, if one does
+abbrev pub refusal_of : List ℕ → Option (Refusal PlanKind)
+refusal_of bytes =
+    let rows = rows_of_bytes Commented bytes in
+    first_failure (tests_of_all bounded_plan_format.line_tests [] rows ++ bounded_plan_format.end_tests rows (past_of_bytes bytes))
+
+-- a file with this after the peak
+abbrev pub bounded : List ℕ → List ℕ
+bounded rest = codes "plan 3\norder 0\npeak 0\n" ++ rest
+
+-- files that are read; another version; no evidence; no end; places that do not rise; a blocker too few and one too many; a claim of three
+-- tokens; amounts past the limit
+pub read_of : map refusal_of (
+    bounded (codes "bound 0\nneed 1\nend\n")
+    ∷ bounded (codes "bound 0\nclaims 1\n3 R 2 0\nend\n")
+    ∷ bounded (codes "bound 0\nfirst 1\nbase 1\n7 -5\nblocker 2 1\n7 5\nend\n")
+    ∷ []) ≡ None ∷ None ∷ None ∷ []
+unfolding lines_of tokens_of number_of number_from signed_of rows_from after_word sort_named dir_named stated
+read_of = refl
+
+pub refusals_of : map refusal_of (
+    codes "plan 2\n"
+    ∷ bounded (codes "bound 0\nsome 1\n")
+    ∷ bounded (codes "bound 0\nneed 1\n")
+    ∷ bounded (codes "bound 0\nfirst 0\nbase 2\n2 1\n2 1\n")
+    ∷ bounded (codes "bound 0\nlast 1\nbase 0\nend\n")
+    ∷ bounded (codes "bound 0\nlast 0\nbase 0\nblocker 1 0\n")
+    ∷ bounded (codes "bound 0\nclaims 1\n3 R 2\n")
+    ∷ (bounded (codes "bound 0\nlast 1\nbase 1\n1 1\nblocker 1 ") ++ decimal most_uses ++ codes "\n")
+    ∷ []) ≡ Some (fault_at 1 kinds.Header) ∷ Some (fault_at 5 kinds.Section) ∷ Some (fault_at 6 kinds.NoEnd)
+    ∷ Some (fault_at 8 kinds.Amount) ∷ Some (fault_at 7 kinds.Section) ∷ Some (fault_at 7 kinds.NoEnd)
+    ∷ Some (fault_at 6 kinds.Claim) ∷ Some (refusals.Limit limits.Uses) ∷ []
+unfolding digits lines_of tokens_of number_of number_from signed_of rows_from after_word sort_named dir_named stated
+refusals_of = refl

@@ -1,0 +1,18 @@
+//! Plan files of version 3, which have a bound and evidence for it: their reader and their printers.
+//!
+//! The definitions stand in specs/: `BoundedPlanFile`, the tests of each line and what a file states; `Printed`, the text of a plan.
+#![tactic(auto)]
+
+pub mod laws;
+mod lines;
+mod printing;
+mod reader;
+mod sort;
+mod stage;
+
+pub use printing::{print_bound, print_bounded_plan};
+pub use reader::read_bounded_plan;
+use std::alloc::AllocError;
+
+/// Want of memory: an allocation was refused.
+pub type NoMemory = AllocError;
