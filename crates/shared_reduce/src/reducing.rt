@@ -1,8 +1,8 @@
-ghost use Rattle.std.specs.Prelude.{◌≡◌, ℕ, List, IfOk, IfErr};
+ghost use Rattle.std.specs.Prelude.{◌≡◌, IfOk, IfErr};
 ghost use Rattle.sp_terms.specs.Values.{term_of};
 ghost use Rattle.graphs.specs.Graph.{completed_system};
 ghost use Rattle.sp_reduce.specs.Reduced.{HasSystem};
-ghost use Rattle.carried_graphs.specs.Carried.{AreLastReaders, carried};
+ghost use Rattle.carried_graphs.specs.Carried.{AreLastReaders};
 ghost use Rattle.shared_reduce.specs.Refusal.{IsSharedReduceRefusal};
 ghost use Rattle.shared_reduce.specs.SharedTerm.{IsSharedTerm, IsRefusedTerm};
 ghost use Rattle.shared_reduce.specs.Uses.{uses_of};
@@ -82,9 +82,10 @@ fn reduce_carried(
 }
 
 /// A term whose system has the traversals of the shared system with their peaks, under the names of its tasks: that of the graph in which
-/// the last readers alone carry the items. The only reader of an item is its last. Or why there is none: the graph of uses has no term, an item with readers has none that comes
-/// after all the others, or the graph in which the last readers carry the items has no term or too many arcs. Expected linear in the tasks,
-/// the items and the readers of all items, but for the order of the rest.
+/// the last readers alone carry the items. The only reader of an item is its last. Or why there is none: an item has several readers and the
+/// graph of uses has no term, an item with readers has none that comes after all the others, or the graph in which the last readers carry
+/// the items has no term or too many arcs. Expected linear in the tasks, the items and the readers of all items, but for the order of the
+/// rest.
 pub fn reduce_shared(alloc: Global, system: &SharedSystem) -> Result<Reduced, SharedReduceRefusal>
     ensures reduced { IfOk result (λ r. IsSharedTerm system.now r.names.items (term_of r.terms)) }
     ensures refused { IfErr result (IsRefusedTerm system.now) }

@@ -1,6 +1,4 @@
-use Rattle.std.proofs.Common.{◌≡◌, ◌≤◌, ℕ, List, length, map, sym, ap, subst, ◌∙◌, arith}
-use Rattle.mp_system.specs.Memory.{peak_of}
-use Rattle.mp_system.specs.Renaming.{name_in}
+use Rattle.std.proofs.Common.{length, sym, ap, subst, ◌∙◌, arith}
 use Rattle.sp_terms.specs.SystemOfTerm.{system_of_term}
 use Rattle.graphs.specs.Graph.{completed_system}
 use Rattle.shared_systems.specs.SharedMemory.{shared_peak_of}
