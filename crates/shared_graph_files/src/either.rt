@@ -28,9 +28,9 @@ fn is_second(bytes: &[u8]) -> bool
     }
 }
 
-/// What a graph file of version 1 or 2 states, or why it is refused: the first test that fails in the first line that fails; after all lines,
-/// the lowest task that can't be ordered, then the lowest whose share does not fit. A file whose first line does not say version 2 is read
-/// as one of version 1. Near linear in the bytes.
+/// What a graph file of version 1 or 2 states, or why it is refused: the first test that fails in the first line that fails; after all
+/// lines, the lowest task that can't be ordered, then the lowest whose share does not fit. A file whose first line does not say version 2 is
+/// read as one of version 1. Near linear in the bytes.
 pub fn read_either_graph(alloc: Global, bytes: &[u8]) -> Result<EitherGraph, Refusal<GraphKind>>
     ensures { MatchResult result (λ stated. StatesEither bytes.now stated) (IsSharedGraphRefusal bytes.now) }
 {

@@ -1,6 +1,6 @@
 -- No public clause names this.
 -- Readers of items that have one each, or none.
-use Rattle.std.specs.Prelude.{◌≡◌, ℕ, ◌<◌, ◌≤◌, List, [], ◌∷◌, length, slice_index, unwrap_or}
+use Rattle.std.specs.Prelude.{◌≡◌, ℕ, ◌<◌, ◌≤◌, List, length, slice_index, unwrap_or}
 use Rattle.shared_systems.specs.Shared.{SharedItem, only, shared_item_at}
 
 abbrev pub HasSeveral : List ℕ → Type 0

@@ -1,7 +1,7 @@
 //! The last readers of items that have one reader each, or none.
 
-ghost use Rattle.std.specs.Prelude.{◌≡◌, ◌≤◌, ◌<◌, ℕ, Some, None, MatchOption, IfOk, length, slice_index, unwrap_or};
-ghost use Rattle.shared_systems.specs.Shared.{only, shared_item_at};
+ghost use Rattle.std.specs.Prelude.{◌≡◌, ◌<◌, ℕ, MatchOption, IfOk, length};
+ghost use Rattle.shared_systems.specs.Shared.{shared_item_at};
 ghost use Rattle.shared_reduce.specs.Single.{HasSeveral, IsSingle, AreSingle};
 
 use crate::NoMemory;

@@ -174,10 +174,11 @@ fork_carried = refl
 
 pub fork_text :
     named_text
-    (Hold 0 ∷ Hold 0 ∷ Hold 1 ∷ at.Task 1 0 1 ∷ Hold 0 ∷ Hold 3 ∷ at.Task 2 0 1 ∷ Hold 5 ∷ Par 3 ∷ Hold 0 ∷ at.Task 2 0 1 ∷ at.Task 0 0 1 ∷ [])
+    (Hold 0 ∷ Hold 0 ∷ Hold 1 ∷ at.Task 1 0 1 ∷ Hold 0 ∷ Hold 3 ∷ at.Task 2 0 1 ∷ Hold 5 ∷ Par 3
+    ∷ Hold 0 ∷ at.Task 2 0 1 ∷ at.Task 0 0 1 ∷ [])
     (2 ∷ 3 ∷ 4 ∷ 1 ∷ [])
-    ≡ codes "workflow 1\ntasks 4\ndata 0\ndata 0\ndata 1\ntask 1 1\ndata 0\ndata 3\ntask 2 1\ndata 5\npar 3\ndata 0\ntask 2 1\ntask 0 1\nend\n"
-    ++ codes "# 1 2\n# 2 3\n# 3 4\n# 4 1\n"
+    ≡ codes "workflow 1\ntasks 4\ndata 0\ndata 0\ndata 1\ntask 1 1\ndata 0\ndata 3\ntask 2 1\ndata 5\npar 3\n"
+    ++ codes "data 0\ntask 2 1\ntask 0 1\nend\n" ++ codes "# 1 2\n# 2 3\n# 3 4\n# 4 1\n"
 unfolding digits
 fork_text = refl
 
