@@ -51,8 +51,8 @@ pub fn carried_term_law()
     carried_law();
 }
 
-/// Each order of the term tells one of the shared system, with a peak that is no higher; each order of the system is told by one of the term
-/// with the same peak; so both have the same least peak.
+/// Each order of the term tells one of the shared system, with a peak that is no higher; each order of the system is told by one of the
+/// term with the same peak; so both have the same least peak.
 pub fn told_term_law()
     ensures traversal { (system : SharedTaskSystem) (names : List ℕ) (t : Term) (order : List ℕ) →
         IsSharedSystem system → IsSharedTerm system names t →

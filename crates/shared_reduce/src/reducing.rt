@@ -83,9 +83,9 @@ fn reduce_carried(
 }
 
 /// A term whose orders tell those of the shared system with their peaks: that of the graph in which the last readers of the system with its
-/// joins alone carry the items. Or why there is none: the graph of uses has no term, an item with readers has none that comes after all the
-/// others, or the graph in which the last readers carry the items has no term or too many arcs. Expected near linear in the tasks, the items
-/// and the readers of all items, but for the order of the rest.
+/// joins alone carry the items. Or why there is none: the graph of uses has no term, an item with readers has none that comes after all
+/// the others, or the graph in which the last readers carry the items has no term or too many arcs. Expected near linear in the tasks, the
+/// items and the readers of all items, but for the order of the rest.
 pub fn reduce_shared(alloc: Global, system: &SharedSystem) -> Result<Reduced, SharedReduceRefusal>
     ensures reduced { IfOk result (λ r. IsSharedTerm system.now r.names.items (term_of r.terms)) }
     ensures refused { IfErr result (IsRefusedTerm system.now) }
