@@ -99,11 +99,11 @@ module _ (system : SharedTaskSystem) (joins : List ℕ) (safe : AreSafeJoins sys
       let u = is.producer in
       let supplies : reads_from system u v ≡ true = read u v is.from_is reads in
       all_from done joins 1 (join_between joins x.from x.readers) (λ i lt e. (
-        let place : 1 + i - 1 ≡ i = omega arith in
-        let has_task : HasTask system (1 + i) = (omega arith, omega (arith, lt, safe.len)) in
-        let join : join_of joins (1 + i) ≡ join_of joins u = ap (λ (z : ℕ). get_or joins z 0) place ∙ e ∙ is.join_is in
-        let same = safe.same u (1 + i) (within.producer u is.from_is) has_task (λ none. omega (arith, none, is.join_is, some)) (sym join) v in
-        supplier_done done (1 + i) v system.items has (sym same ∙ supplies)
+      let place : 1 + i - 1 ≡ i = omega arith in
+      let has_task : HasTask system (1 + i) = (omega arith, omega (arith, lt, safe.len)) in
+      let join : join_of joins (1 + i) ≡ join_of joins u = ap (λ (z : ℕ). get_or joins z 0) place ∙ e ∙ is.join_is in
+      let same = safe.same u (1 + i) (within.producer u is.from_is) has_task (λ none. omega (arith, none, is.join_is, some)) (sym join) v in
+      supplier_done done (1 + i) v system.items has (sym same ∙ supplies)
       ))
 
   module _ (mixed : ℕ → Bool) (low : (u : ℕ) → HasTask system u → mixed u ≡ done u)
@@ -209,8 +209,7 @@ module _ (system : SharedTaskSystem) (joins : List ℕ) (safe : AreSafeJoins sys
         let c = is.reader in
         let reads = head_read c is.others x.readers is.to_is in
         let task = All-head (IsAmong (length system.tasks)) c is.others (subst (All (IsAmong (length system.tasks))) is.to_is within.readers) in
-        let has = (own c task (sym is.join_is ∙ e)).1 in
-        (
+        let has = (own c task (sym is.join_is ∙ e)).1 in (
           still_made x.from within.producer (made_of (is_read_by c x) (is_made done x) (given c has) reads),
           λ before. (
               let there = between joins x.from x.readers before in

@@ -117,8 +117,7 @@ module _ (system : SharedTaskSystem) (joins : List ℕ) where
   pub share_is : (v : ℕ) → HasTask system v → HasOwnShare system v → HasOwnShare (joined joins system) v
   share_is v task own =
       let extra = ap (λ (t : Task). t.extra) (task_is v task) in
-      let share = ap (λ (t : Task). t.share) (task_is v task) in
-      (
+      let share = ap (λ (t : Task). t.share) (task_is v task) in (
         omega (arith, share, own.0, inputs_are (length system.tasks) joins v task.1 system.items),
         omega (arith, extra, share, own.1, outputs_are (length system.tasks) joins v task.1 system.items),
       )

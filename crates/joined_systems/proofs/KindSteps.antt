@@ -150,8 +150,7 @@ module _ (kinds firsts leaders : List ℕ) (v kind : ℕ) (some : 1 ≤ v) (here
       )
       | inr last ↦ (
           let is : i ≡ v - 1 = omega (arith, lt, last) in
-          let value = last_at (get_or firsts kind 0) i is in
-          (
+          let value = last_at (get_or firsts kind 0) i is in (
             value ∙ ap (λ (k : ℕ). get_or firsts k 0) (sym (kind_at i is)),
             omega (arith, value, there),
             omega (arith, value, (are.told kind there).0, is, some),
@@ -183,8 +182,7 @@ module _ (kinds firsts leaders : List ℕ) (v kind : ℕ) (some : 1 ≤ v) (here
               let x = get_or (set firsts kind v) kind 0 in
               let old = are.each i before in
               let apart : get_or kinds (i + 1) 0 ≡ kind → ⊥ =
-              λ same. (let value = ap (λ (k : ℕ). get_or firsts k 0) same in omega (arith, value, none, old.0, old.1)) in
-              (
+              λ same. (let value = ap (λ (k : ℕ). get_or firsts k 0) same in omega (arith, value, none, old.0, old.1)) in (
                 before_last x i before ∙ old.0 ∙ sym (others (get_or kinds (i + 1) 0) apart),
                 omega (arith, before_last x i before, old.1),
                 omega (arith, before_last x i before, old.2),
@@ -192,8 +190,7 @@ module _ (kinds firsts leaders : List ℕ) (v kind : ℕ) (some : 1 ≤ v) (here
               )
           | inr last ↦ (
               let is : i ≡ v - 1 = omega (arith, lt, last) in
-              let value = last_at (get_or (set firsts kind v) kind 0) i is in
-              (
+              let value = last_at (get_or (set firsts kind v) kind 0) i is in (
                 value ∙ ap (λ (k : ℕ). get_or (set firsts kind v) k 0) (sym (kind_at i is)),
                 omega (arith, value, own, some),
                 omega (arith, value, own, is, some),

@@ -29,19 +29,19 @@ has_place (x ∷ xs) y e = elim (or_cases (eqb x y) (has xs y) e) [
 pub two_at : (xs : List ℕ) (i j : ℕ) → i < length xs → j < length xs → get_or xs i 0 ≢ get_or xs j 0 → HasTwo xs
 two_at xs i j lt_i lt_j apart = elim (cases_lt (get_or xs i 0) (get_or xs j 0)) [
   | inl less ↦ record {
-      first = get_or xs i 0;
-      second = get_or xs j 0;
-      order = less;
-      first_in = has_at xs i lt_i;
-      second_in = has_at xs j lt_j;
-    }
+    first = get_or xs i 0;
+    second = get_or xs j 0;
+    order = less;
+    first_in = has_at xs i lt_i;
+    second_in = has_at xs j lt_j;
+  }
   | inr more ↦ record {
-      first = get_or xs j 0;
-      second = get_or xs i 0;
-      order = omega arith;
-      first_in = has_at xs j lt_j;
-      second_in = has_at xs i lt_i;
-    }
+    first = get_or xs j 0;
+    second = get_or xs i 0;
+    order = omega arith;
+    first_in = has_at xs j lt_j;
+    second_in = has_at xs i lt_i;
+  }
 ]
 
 module _ (f : List ℕ) (row : List ℕ) where
@@ -152,8 +152,7 @@ module _ (leaders : List ℕ) (items : List SharedItem) (i : ℕ) (old : List Bo
             λ is. ap (λ (w : ℕ). get_or (set old l true) w false) is_l ∙ own,
           )
           | inr other ↦ (
-              let kept : get_or (set old l true) v false ≡ get_or old v false = get_or-set_other old l v true false other in
-              (
+              let kept : get_or (set old l true) v false ≡ get_or old v false = get_or-set_other old l v true false other in (
                 λ e. longer v ((are v).0 (sym kept ∙ e)),
                 λ is. elim (cases_lt is.place i) [
                   | inl lt ↦ kept ∙ (are v).1 (shorter v is lt)

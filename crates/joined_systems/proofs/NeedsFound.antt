@@ -32,8 +32,8 @@ numbers_rising keys first k =
     let test = λ (v : ℕ). eqb (get_or keys (v - first) 0) k in
     subst IsStrictlyIncreasing
     (filter-numbers keys first k test (λ i lt. (
-      let place : first + i - first ≡ i = omega arith in
-      ap (λ (j : ℕ). eqb (get_or keys j 0) k) place)))
+    let place : first + i - first ≡ i = omega arith in
+    ap (λ (j : ℕ). eqb (get_or keys j 0) k) place)))
     (IsStrictlyIncreasing-filter test (range_with_len first (length keys)) (range_rising first (length keys)))
 
 all_self : (xs ys : List ℕ) → ((i : ℕ) → i < length ys → has xs (get_or ys i 0) ≡ true) → list_all (has xs) ys ≡ true
@@ -153,17 +153,17 @@ module _ (system : SharedTaskSystem) (leaders : List ℕ) (within : All (IsShare
           several = is.several;
           just = rising_same x.readers row own.rising (numbers_rising leaders 1 l) (λ z. same_bool (has x.readers z) (has row z)
               (λ e. (
-                  let there = has_place x.readers z e in
-                  let among = own.readers there.0 0 there.1.0 in
-                  let other : HasTask system z = (omega (arith, among.0, there.1.1), omega (arith, among.1, there.1.1, many)) in
-                  (row_has z other).1 ((is.just z other).0 e)
-                  ))
+              let there = has_place x.readers z e in
+              let among = own.readers there.0 0 there.1.0 in
+              let other : HasTask system z = (omega (arith, among.0, there.1.1), omega (arith, among.1, there.1.1, many)) in
+              (row_has z other).1 ((is.just z other).0 e)
+              ))
               (λ e. (
-                  let there = has_place row z e in
-                  let at = of_row leaders l there.0 there.1.0 in
-                  let other : HasTask system z = (omega (arith, at.0, there.1.1), omega (arith, at.1, there.1.1, many)) in
-                  (is.just z other).1 ((row_has z other).0 e)
-                  )));
+              let there = has_place row z e in
+              let at = of_row leaders l there.0 there.1.0 in
+              let other : HasTask system z = (omega (arith, at.0, there.1.1), omega (arith, at.1, there.1.1, many)) in
+              (is.just z other).1 ((row_has z other).0 e)
+              )));
         }
 
     -- ---- the whole
@@ -198,13 +198,16 @@ module _ (system : SharedTaskSystem) (leaders : List ℕ) (within : All (IsShare
             )
       ],
       λ needs. elim needs [
-        | inl pair ↦ inr (two_in pair.other pair.task pair.apart pair.same, record {
+        | inl pair ↦ inr (
+          two_in pair.other pair.task pair.apart pair.same,
+          record {
             first = pair.first;
             second = pair.second;
             order = pair.order;
             first_in = use_reads v pair.first task.0 ∙ pair.first_reads;
             second_in = use_reads v pair.second task.0 ∙ pair.second_reads;
-          })
+          },
+        )
         | inr item ↦ (
             let row = numbers_with (makers system.items) 0 v in
             let there = has_place (map (slice_index (takers system.items)) row) item.reader (use_reads v item.reader task.0 ∙ item.reads) in
@@ -219,39 +222,39 @@ pub together : (system : SharedTaskSystem) (u v : ℕ) → HasTask system u → 
 together system u v task same needs = elim needs [
   | inl pair ↦ elim (cases_eq pair.other v) [
     | inl is_v ↦ inl (record {
-        other = u;
-        task = task;
-        apart = λ e. pair.apart (is_v ∙ sym e);
-        same = λ w. sym (same w);
-        first = pair.first;
-        second = pair.second;
-        order = pair.order;
-        first_reads = sym (same pair.first) ∙ pair.first_reads;
-        second_reads = sym (same pair.second) ∙ pair.second_reads;
-      })
+      other = u;
+      task = task;
+      apart = λ e. pair.apart (is_v ∙ sym e);
+      same = λ w. sym (same w);
+      first = pair.first;
+      second = pair.second;
+      order = pair.order;
+      first_reads = sym (same pair.first) ∙ pair.first_reads;
+      second_reads = sym (same pair.second) ∙ pair.second_reads;
+    })
     | inr other ↦ inl (record {
-        other = pair.other;
-        task = pair.task;
-        apart = other;
-        same = λ w. sym (same w) ∙ pair.same w;
-        first = pair.first;
-        second = pair.second;
-        order = pair.order;
-        first_reads = sym (same pair.first) ∙ pair.first_reads;
-        second_reads = sym (same pair.second) ∙ pair.second_reads;
-      })
+      other = pair.other;
+      task = pair.task;
+      apart = other;
+      same = λ w. sym (same w) ∙ pair.same w;
+      first = pair.first;
+      second = pair.second;
+      order = pair.order;
+      first_reads = sym (same pair.first) ∙ pair.first_reads;
+      second_reads = sym (same pair.second) ∙ pair.second_reads;
+    })
   ]
   | inr item ↦ inr (record {
-      reader = item.reader;
-      reads = sym (same item.reader) ∙ item.reads;
-      place = item.place;
-      inside = item.inside;
-      several = item.several;
-      just = λ w other. (
-          λ e z. sym (same z) ∙ (item.just w other).0 e z,
-          λ there. (item.just w other).1 (λ z. same z ∙ there z),
-        );
-    })
+    reader = item.reader;
+    reads = sym (same item.reader) ∙ item.reads;
+    place = item.place;
+    inside = item.inside;
+    several = item.several;
+    just = λ w other. (
+      λ e z. sym (same z) ∙ (item.just w other).0 e z,
+      λ there. (item.just w other).1 (λ z. same z ∙ there z),
+    );
+  })
 ]
 
 -- ---- places of leaders, from 0 on
@@ -294,8 +297,7 @@ module _ (system : SharedTaskSystem) (leaders : List ℕ) (within : All (IsShare
       let leader_is : get_or leaders (i + 1 - 1) 0 ≡ l = ap (λ (j : ℕ). get_or leaders j 0) place in
       let law = tells system leaders within many are (i + 1) task in
       let row = rows_are l (omega (arith, index_all (meet (makers system.items) (takers system.items)) leaders are i)) in
-      let used = uses_are (i + 1) (omega (arith, lt)) in
-      (
+      let used = uses_are (i + 1) (omega (arith, lt)) in (
         λ e. law.0 (elim ((needs_are i lt).0 e) [
           | inl by_item ↦ inl (
             subst (IsReadByAll leaders system.items (length system.items)) (sym leader_is) ((released_are l).0 by_item.0),
@@ -349,8 +351,7 @@ module _ (system : SharedTaskSystem) (leaders : List ℕ) (within : All (IsShare
         );
     same = λ u v one two some_u some_v. (
         let law = numbers.same (u - 1) (v - 1) (omega (arith, numbers.len, many, one.0, one.1)) (omega (arith, numbers.len, many, two.0, two.1))
-        some_u some_v in
-        (
+        some_u some_v in (
           λ e. led system leaders within many are u v one two (law.0 e),
           λ same. law.1 (leads system leaders within many are u v one two same),
         )

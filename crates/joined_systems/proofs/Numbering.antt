@@ -50,8 +50,7 @@ module _ (leaders : List ℕ) (needs : List Bool) (joins : List ℕ) (n x : ℕ)
         λ e z. (are.needed i old).1 e (sym (old_at i old) ∙ z),
       )
       | inr new ↦ (
-          let is = last_is i lt new in
-          (
+          let is = last_is i lt new in (
             λ e. ap (λ (k : ℕ). get_or needs k false) is ∙ need.0 (λ z. e (new_at i is ∙ z)),
             λ e z. need.1 (sym (ap (λ (k : ℕ). get_or needs k false) is) ∙ e) (sym (new_at i is) ∙ z),
           )
@@ -74,8 +73,7 @@ module _ (leaders : List ℕ) (needs : List Bool) (joins : List ℕ) (n x : ℕ)
         | inl two ↦ (
             let is = last_is i lt_i one in
             let law = alike j two (λ z. some_j (old_at j two ∙ z)) (λ z. some_i (new_at i is ∙ z)) in
-            let lead = ap (λ (k : ℕ). get_or leaders k 0) is in
-            (
+            let lead = ap (λ (k : ℕ). get_or leaders k 0) is in (
               λ e. lead ∙ sym (law.0 (sym (old_at j two) ∙ sym e ∙ new_at i is)),
               λ e. new_at i is ∙ sym (law.1 (sym e ∙ lead)) ∙ sym (old_at j two),
             )

@@ -49,4 +49,3 @@ rising_same (x ∷ xs) (y ∷ ys) one two same =
     ] in
     let rest : xs ≡ ys = rising_same xs ys (rising-tail x xs one) (rising-tail y ys two) tails in
     cc
-

@@ -257,8 +257,7 @@ module _ (system : SharedTaskSystem) (joins : List ℕ) (is : IsSharedSystem sys
         let own : (u : ℕ) → HasTask system u → join_of joins u ≡ k → (later u ≡ true) × (has_inputs system (stands_in before) u ≡ true) =
         λ u is_task e. (
         let stands : (stands_in before u || eqb v u) ≡ true = sym (stands_push before v u)
-        ∙ of_join system joins safe (stands_in (before ++ v ∷ [])) u k is_task e all in
-        (
+        ∙ of_join system joins safe (stands_in (before ++ v ∷ [])) u k is_task e all in (
           stands_push mixed v u ∙ ap (λ (b : Bool). b || eqb v u) (agree.low u is_task.1) ∙ stands,
           elim (or_cases (stands_in before u) (eqb v u) stands) [
             | inl old ↦ closed system order before (v ∷ rest) traversal split u old

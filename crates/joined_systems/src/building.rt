@@ -67,8 +67,9 @@ fn push_item(
     requires few { count + join < 2 ^ 32 }
     requires room { sum_by reader_count made.old.items + length readers.now + 1 < 2 ^ 32 }
     ensures { OnOk result (made.new ≡ record {
-        items = made.old.items ++ record { size = size; from = end_given from; readers = readers.now ++ join_task count join } ∷ [];
-        waiting = []; }) }
+      items = made.old.items ++ record { size = size; from = end_given from; readers = readers.now ++ join_task count join } ∷ [];
+      waiting = [];
+    }) }
 {
     for reader in readers {
         made.push_reader(*reader)?;
@@ -95,8 +96,9 @@ fn push_joined(
     requires few_after { count + after < 2 ^ 32 }
     requires room { sum_by reader_count made.old.items + length (shared_item_at items.now i).readers + 2 < 2 ^ 32 }
     ensures { OnOk result (made.new ≡ record {
-        items = made.old.items ++ specs.through count between (with_task count after (shared_item_at items.now i));
-        waiting = []; }) }
+      items = made.old.items ++ specs.through count between (with_task count after (shared_item_at items.now i));
+      waiting = [];
+    }) }
 {
     let size = items.size(i);
     let from = items.producer(i).unwrap_or(0);

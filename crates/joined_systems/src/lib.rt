@@ -5,11 +5,10 @@
 //! The definitions stand in specs/: `Joins`, which tasks need a join; `Joined`, the system with its joins. The laws stand in [`laws`].
 #![tactic(auto)]
 
-pub mod laws;
-
 mod building;
 mod joined;
 mod kinds;
+pub mod laws;
 mod needs;
 
 pub use joined::join_tasks;

@@ -1,15 +1,8 @@
 -- The moment of a blocker is a moment, and so evidence bounds the peak of every traversal.
-<<<<<<< HEAD
 use Rattle.std.proofs.Common.{◌≡◌, ℕ, ◌+◌, ◌-◌, ◌<◌, ◌≤◌, Bool, true, false, not, ◌&&◌, ◌||◌, eqb, eq-eqb, inl, inr, List, [], ◌∷◌}
 use Rattle.std.proofs.Common.{length, get_or, refl, sym, ap, subst, ◌∙◌, arith}
 use Rattle.std.specs.Prelude.{ℤ, pos, ◌≤ℤ◌}
 use Rattle.std.specs.List.{list_any, list_all}
-=======
-use Rattle.std.proofs.Common.{◌≡◌, ◌≢◌, ◌⊎◌, ℕ, zero, suc, ◌+◌, ◌-◌, ◌<◌, ◌≤◌, Bool, true, false, not, ◌&&◌, ◌||◌, eqb, eq-eqb, leb, inl, inr, List, [], ◌∷◌}
-use Rattle.std.proofs.Common.{length, map, get_or, refl, sym, ap, subst, ◌∙◌, arith}
-use Rattle.std.specs.Prelude.{ℤ, pos, ◌≤ℤ◌}
-use Rattle.std.specs.List.{list_any, list_all, sum_by}
->>>>>>> e12410fbf33acf1741e4328a287b9613dcf65c2c
 use Rattle.std.proofs.lemmas.Int.{ints}
 use Rattle.std.proofs.lemmas.Bool.{eqb-true, and_parts, and_from, or_left, or_right, and_right, cases_eq, ne_eqb, le-leb, cases_Bool, not_from_false}
 use Rattle.std.proofs.lemmas.List.{ext_get_or, length-map, get_or-map}
@@ -18,17 +11,10 @@ use Rattle.std.proofs.lemmas.List.Folds.{list_any_at}
 use Rattle.std.proofs.lemmas.List.Sums.{sum_by-cons}
 use Rattle.lists.proofs.Bools.{same_bool}
 use Rattle.lists.specs.Numbers.{IsPlace}
-<<<<<<< HEAD
 use Rattle.mp_system.specs.Memory.{stands_in}
 use Rattle.mp_system.specs.Replay.{is_marked}
 use Rattle.shared_systems.specs.Shared.{SharedTaskSystem, SharedItem, HasTask, is_read_by, shared_size_if, shared_size_where}
 use Rattle.shared_systems.specs.SharedMemory.{is_held, are_done, is_made, has_inputs, shared_peak_of}
-=======
-use Rattle.mp_system.specs.Memory.{stands_in, is_done_or}
-use Rattle.mp_system.specs.Replay.{is_marked}
-use Rattle.shared_systems.specs.Shared.{SharedTaskSystem, SharedItem, HasTask, is_read_by, shared_size_if, shared_size_where}
-use Rattle.shared_systems.specs.SharedMemory.{is_held, are_done, is_made, has_inputs, shared_peak_of, shared_memory}
->>>>>>> e12410fbf33acf1741e4328a287b9613dcf65c2c
 use Rattle.shared_systems.specs.SharedTraversal.{IsSharedTraversal}
 use Rattle.shared_systems.specs.Bounds.{IsSharedSystem}
 use Rattle.shared_systems.specs.Paths.{reads_from, ComesAfter, reads, over}

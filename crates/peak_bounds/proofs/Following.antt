@@ -1,11 +1,6 @@
 -- Which tasks come after which: by uses of items, one step at a time.
-<<<<<<< HEAD
 use Rattle.std.proofs.Common.{◌≡◌, ◌⊎◌, ℕ, suc, ◌<◌, Bool, true, false, not, ◌&&◌, ◌||◌, eqb, eq-eqb, inl, inr, List, [], ◌∷◌, length, map}
 use Rattle.std.proofs.Common.{get_or, Option, Some, None, refl, ap, subst, ◌∙◌, arith}
-=======
-use Rattle.std.proofs.Common.{◌≡◌, ◌⊎◌, ℕ, zero, suc, ◌<◌, Bool, true, false, not, ◌&&◌, ◌||◌, eqb, eq-eqb, inl, inr, List, [], ◌∷◌, ◌++◌, length, map}
-use Rattle.std.proofs.Common.{get_or, Option, Some, None, refl, sym, ap, subst, ◌∙◌, arith}
->>>>>>> e12410fbf33acf1741e4328a287b9613dcf65c2c
 use Rattle.std.specs.Prelude.{All}
 use Rattle.std.specs.List.{list_all, list_any}
 use Rattle.std.proofs.lemmas.Bool.{eqb-true, and_parts, and_from, or_cases, or_left, or_right, cases_Bool}
@@ -76,11 +71,7 @@ module _ (u v : ℕ) where
       ∙ ap (λ (b : Bool). (is_made_by u x && is_read_by v x) || b) (between_is items)
 
 module _ (system : SharedTaskSystem) (test : ℕ → Bool) (u v : ℕ) (e : reads_from system u v ≡ true) where
-<<<<<<< HEAD
   pub use_at : (k : ℕ) × (k < length (uses_of system.items)) × (is_between u v (get_or (uses_of system.items) k no_use) ≡ true)
-=======
-  use_at : (k : ℕ) × (k < length (uses_of system.items)) × (is_between u v (get_or (uses_of system.items) k no_use) ≡ true)
->>>>>>> e12410fbf33acf1741e4328a287b9613dcf65c2c
   use_at = found_at (is_between u v) (uses_of system.items) no_use (between_is u v system.items ∙ e)
 
   -- what passes the test reads what u makes, or makes what v reads

@@ -7,11 +7,7 @@ use Rattle.std.specs.List.Sorted.{IsStrictlyIncreasing}
 use Rattle.limits.specs.Limits.{most_total}
 use Rattle.lists.specs.Numbers.{Each, IsFirstWithout}
 use Rattle.mp_system.specs.Memory.{stands_in}
-<<<<<<< HEAD
 use Rattle.shared_systems.specs.Shared.{SharedTaskSystem, HasTask, is_read_by, shared_size_where, shared_need_of}
-=======
-use Rattle.shared_systems.specs.Shared.{SharedTaskSystem, SharedItem, HasTask, is_read_by, shared_size_where, shared_need_of}
->>>>>>> e12410fbf33acf1741e4328a287b9613dcf65c2c
 use Rattle.shared_systems.specs.Paths.{ComesAfter}
 use Rattle.peak_bounds.specs.declared.step.Event.{Event}
 use Rattle.peak_bounds.specs.declared.step.Event.TheVariants.{First, Last}

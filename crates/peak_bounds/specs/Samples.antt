@@ -35,19 +35,11 @@ five_uses = refl
 pub five_peak : shared_peak_of five (1 ∷ 3 ∷ 2 ∷ 4 ∷ 5 ∷ []) ≡ 11
 five_peak = refl
 
-<<<<<<< HEAD
 abbrev pub amount : ℕ → ℤ → Amount
 amount place z = record { place = place; amount = z }
 
 -- one of the tasks 1 and 3 starts last: then the other has run, and what it made is there, or what the task behind it made of that, which
 -- is more; so at least 1 is there
-=======
--- one of the tasks 1 and 3 starts last: then the other has run, and what it made is there, or what the task behind it made of that, which is
--- more; so at least 1 is there
-abbrev pub amount : ℕ → ℤ → Amount
-amount place z = record { place = place; amount = z }
-
->>>>>>> e12410fbf33acf1741e4328a287b9613dcf65c2c
 abbrev pub leaves : EventSetValue
 leaves = record {
   event = Last;

@@ -140,10 +140,6 @@ pub enum Objection {
         /// The test.
         test: BlockerTest,
         /// The place of the blocker.
-<<<<<<< HEAD
         place: u64,
-=======
-        place: u32,
->>>>>>> e12410fbf33acf1741e4328a287b9613dcf65c2c
     },
 }

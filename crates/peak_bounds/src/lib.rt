@@ -5,10 +5,7 @@
 #![tactic(auto)]
 
 mod evidence;
-<<<<<<< HEAD
 mod judging;
-=======
->>>>>>> e12410fbf33acf1741e4328a287b9613dcf65c2c
 pub mod laws;
 mod levels;
 mod lowered;
@@ -20,11 +17,8 @@ mod use_table;
 mod uses;
 
 pub use evidence::{Amount, Blocker, BlockerTest, EventSet, Evidence, Objection};
-<<<<<<< HEAD
 pub use judging::judge_evidence;
 use std::alloc::AllocError;
-=======
->>>>>>> e12410fbf33acf1741e4328a287b9613dcf65c2c
 pub use step::Event;
 
 /// Want of memory: an allocation was refused.

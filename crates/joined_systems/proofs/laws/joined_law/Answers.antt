@@ -47,31 +47,35 @@ returns-clause-peak c = λ system other order is made traversal. elim made.1.1 [
 pub returns-clause-back : goal.returns-clause-back
 returns-clause-back c = λ system other order is made traversal. elim made.1.1 [
   | inl put ↦ (
-      let there = c.weaving_law.ensures system made.0 order is (c.safe_law.ensures system made.0 made.1.0) traversal in
-      (there.0, (
-        subst (λ (s : SharedTaskSystem). IsSharedTraversal s there.0) (sym put.0) there.1.0,
-        there.1.1,
-        ap (λ (s : SharedTaskSystem). shared_peak_of s there.0) put.0 ∙ there.1.2,
-      ))
+      let there = c.weaving_law.ensures system made.0 order is (c.safe_law.ensures system made.0 made.1.0) traversal in (
+        there.0,
+        (
+          subst (λ (s : SharedTaskSystem). IsSharedTraversal s there.0) (sym put.0) there.1.0,
+          there.1.1,
+          ap (λ (s : SharedTaskSystem). shared_peak_of s there.0) put.0 ∙ there.1.2,
+        ),
       )
-  | inr left ↦ (order, (
+      )
+  | inr left ↦ (
+    order,
+    (
       subst (λ (s : SharedTaskSystem). IsSharedTraversal s order) (sym left.0) traversal,
       nothing_left system order traversal,
       ap (λ (s : SharedTaskSystem). shared_peak_of s order) left.0,
-    ))
+    ),
+  )
 ]
 
 pub returns-clause-least : goal.returns-clause-least
 returns-clause-least c = λ system other peak is made. elim made.1.1 [
   | inl put ↦ (
-      let law = c.least_law.ensures system made.0 peak is (c.safe_law.ensures system made.0 made.1.0) in
-      (
+      let law = c.least_law.ensures system made.0 peak is (c.safe_law.ensures system made.0 made.1.0) in (
         λ least. subst (λ (s : SharedTaskSystem). IsLeastShared s peak) (sym put.0) (law.0 least),
         λ least. law.1 (subst (λ (s : SharedTaskSystem). IsLeastShared s peak) put.0 least),
       )
       )
   | inr left ↦ (
-      λ least. subst (λ (s : SharedTaskSystem). IsLeastShared s peak) (sym left.0) least,
-      λ least. subst (λ (s : SharedTaskSystem). IsLeastShared s peak) left.0 least,
-    )
+    λ least. subst (λ (s : SharedTaskSystem). IsLeastShared s peak) (sym left.0) least,
+    λ least. subst (λ (s : SharedTaskSystem). IsLeastShared s peak) left.0 least,
+  )
 ]
