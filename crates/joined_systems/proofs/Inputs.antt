@@ -1,6 +1,6 @@
 -- Orders in which each task has its inputs, and states of traversals.
 use Rattle.std.proofs.Common.{◌≡◌, ℕ, Bool, true, false, not, ◌&&◌, ◌||◌, List, [], ◌∷◌, ◌++◌}
-use Rattle.std.proofs.Common.{append_assoc, Option, Some, None, refl, sym, ap, subst, ◌∙◌, arith, inl, inr}
+use Rattle.std.proofs.Common.{append_assoc, Option, Some, None, refl, sym, ap, subst, ◌∙◌, inl, inr}
 use Rattle.std.specs.Prelude.{All}
 use Rattle.std.specs.List.{list_all, list_any}
 use Rattle.std.proofs.lemmas.List.{append-nil}
@@ -11,7 +11,6 @@ use Rattle.mp_system.specs.Memory.{is_done_or, stands_in}
 use Rattle.shared_systems.specs.Shared.{SharedTaskSystem, SharedItem, is_made_by, is_read_by}
 use Rattle.shared_systems.specs.SharedMemory.{is_made, has_inputs}
 use Rattle.shared_systems.specs.SharedTraversal.{IsSharedTraversal}
-use Rattle.shared_systems.specs.Paths.{reads_from}
 use Rattle.shared_systems.proofs.States.{still_has_inputs}
 use Rattle.shared_systems.proofs.Steps.{stands_more}
 use Rattle.shared_systems.proofs.WithoutCollectors.{stood}

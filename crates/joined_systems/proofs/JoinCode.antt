@@ -1,24 +1,22 @@
 -- What the code of the joined system needs of one item, one join, and the whole.
 use Rattle.std.proofs.Common.{◌≡◌, ℕ, zero, suc, ◌+◌, ◌-◌, ◌<◌, ◌≤◌, Bool, true, false, cond, eqb, List, [], ◌∷◌, ◌++◌, length, get_or, take, set, map}
-use Rattle.std.proofs.Common.{length-append, append_assoc, inl, inr, Option, Some, None, max, refl, sym, ap, ◌∙◌, arith}
+use Rattle.std.proofs.Common.{length-append, append_assoc, inl, inr, Option, Some, None, refl, sym, ap, ◌∙◌, arith}
 use Rattle.std.specs.Prelude.{All, unwrap_or}
 use Rattle.std.specs.List.{flat_map, sum_by, range_with_len}
 use Rattle.std.specs.Option.{ForSome}
 use Rattle.std.specs.Str.{bytes_eq}
 use Rattle.std.proofs.lemmas.List.{take_more, append-nil, length-take, map-append, get_or-set_same, get_or-set_other}
 use Rattle.std.proofs.lemmas.List.Sums.{sum_by-cons, sum_by-append, sum_by_more_le}
-use Rattle.std.proofs.lemmas.Grind.{flat_map-append}
 use Rattle.std.proofs.lemmas.Bool.{cases_eq, eq-eqb, ne_eqb}
 use Rattle.lists.proofs.Lists.{range_last}
 use Rattle.mp_system.specs.declared.system.Task.{Task}
 use Rattle.mp_system.specs.Given.{end_given}
-use Rattle.graphs.specs.Graph.{IsAmong}
 use Rattle.shared_systems.specs.Shared.{SharedItem, shared_item_at}
 use Rattle.shared_systems.specs.Bounds.{reader_count, shared_size}
 use Rattle.shared_systems.specs.Growing.{ItemsSoFar}
 use Rattle.shared_systems.proofs.KeySums.{no_item}
 use Rattle.joined_systems.specs.Joins.{join_count, join_of, tasks_of}
-use Rattle.joined_systems.specs.Joined.{join_task, join_between, join_after, through, with_task, released, joined_item}
+use Rattle.joined_systems.specs.Joined.{join_task, join_between, join_after, through, released, joined_item}
 use Rattle.joined_systems.proofs.JoinNumbers.{join-le}
 
 abbrev pub join_with : List ℕ → ℕ → Task
@@ -110,18 +108,6 @@ joined_sizes n joins (x ∷ xs) =
     )
 
 -- ---- one item more
-
-pub items_more : (n : ℕ) (joins : List ℕ) (xs : List SharedItem) (i : ℕ) → i < length xs
-    → flat_map (joined_item n joins) (take (i + 1) xs)
-    ≡ flat_map (joined_item n joins) (take i xs) ++ joined_item n joins (shared_item_at xs i)
-items_more n joins xs i lt =
-    ap (flat_map (joined_item n joins)) (take_more xs i no_item lt)
-    ∙ flat_map-append (joined_item n joins) (take i xs) (shared_item_at xs i ∷ [])
-    ∙ ap (λ (l : List SharedItem). flat_map (joined_item n joins) (take i xs) ++ l) (single (joined_item n joins (shared_item_at xs i)))
-  where
-    single : (l : List SharedItem) → l ++ [] ≡ l
-    single [] = refl
-    single (x ∷ l) = ap (λ (r : List SharedItem). x ∷ r) (single l)
 
 pub uses_so_far : (n : ℕ) (joins : List ℕ) (xs : List SharedItem) (i : ℕ) → i < length xs
     → sum_by reader_count (flat_map (joined_item n joins) (take i xs)) + length (shared_item_at xs i).readers

@@ -3,11 +3,11 @@ use Rattle.std.proofs.Common.{◌≡◌, ℕ, zero, suc, ◌+◌, ◌-◌, ◌<�
 use Rattle.std.proofs.Common.{length, get_or, take, max, refl, sym, ap, subst, ◌∙◌, arith, inl, inr}
 use Rattle.std.specs.List.{list_all}
 use Rattle.std.proofs.lemmas.List.{take_more, take_all}
-use Rattle.std.proofs.lemmas.Bool.{cases_Bool, cases_eq, and_parts, and_from, ne_eqb, eqb-true}
+use Rattle.std.proofs.lemmas.Bool.{cases_Bool, cases_eq, and_parts, and_from, ne_eqb}
 use Rattle.lists.proofs.Orders.{le_or_lt}
 use Rattle.row_table.specs.Rows.{numbers_with}
-use Rattle.shared_systems.specs.Shared.{SharedTaskSystem, HasTask}
-use Rattle.joined_systems.specs.Joins.{AreJoins, AreSafeJoins, join_of, tasks_of, join_count}
+use Rattle.shared_systems.specs.Shared.{SharedTaskSystem}
+use Rattle.joined_systems.specs.Joins.{AreJoins, AreSafeJoins, join_count}
 
 -- ---- the tasks of a join
 

@@ -1,6 +1,6 @@
 -- A state of the system, and one of the joined system in which a join is done where all its tasks are: the memory is the same, and so is who
 -- has its inputs.
-use Rattle.std.proofs.Common.{◌≡◌, ◌≢◌, ℕ, ◌+◌, ◌-◌, ◌<◌, ◌≤◌, Bool, true, false, cond, not, ◌&&◌, ◌||◌, eqb, List, [], ◌∷◌, ◌++◌}
+use Rattle.std.proofs.Common.{◌≡◌, ℕ, ◌+◌, ◌-◌, ◌≤◌, Bool, true, cond, not, ◌&&◌, ◌||◌, eqb, List, [], ◌∷◌, ◌++◌}
 use Rattle.std.proofs.Common.{length, get_or, Option, Some, None, refl, sym, ap, subst, ◌∙◌, arith, inl, inr}
 use Rattle.std.specs.Prelude.{All}
 use Rattle.std.specs.List.{flat_map, list_all, list_any}
@@ -15,7 +15,7 @@ use Rattle.shared_systems.specs.Shared.{SharedTaskSystem, SharedItem, HasTask, s
 use Rattle.shared_systems.specs.SharedMemory.{is_made, are_done, is_held, has_inputs}
 use Rattle.shared_systems.specs.Paths.{reads_from}
 use Rattle.shared_systems.specs.Bounds.{IsSharedItemWithin}
-use Rattle.shared_systems.proofs.States.{made_same, all_done_same, are_done_same}
+use Rattle.shared_systems.proofs.States.{all_done_same, are_done_same}
 use Rattle.joined_systems.specs.Joins.{AreSafeJoins, join_of, tasks_of, join_count}
 use Rattle.joined_systems.specs.Joined.{join_between, join_after, join_task, released, joined_item}
 use Rattle.joined_systems.proofs.JoinNumbers.{all_at, all_from, join-le}

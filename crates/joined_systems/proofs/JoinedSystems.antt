@@ -1,6 +1,6 @@
 -- The tasks of the joined system, and what they need.
-use Rattle.std.proofs.Common.{◌≡◌, ℕ, ◌+◌, ◌-◌, ◌<◌, ◌≤◌, Bool, true, cond, ◌&&◌, eqb, List, [], ◌∷◌, ◌++◌, map, length, get_or}
-use Rattle.std.proofs.Common.{length-append, Option, None, refl, sym, ap, ◌∙◌, arith}
+use Rattle.std.proofs.Common.{◌≡◌, ℕ, ◌+◌, ◌-◌, ◌≤◌, Bool, ◌&&◌, eqb, List, [], ◌∷◌, map, length}
+use Rattle.std.proofs.Common.{length-append, refl, ap, ◌∙◌, arith}
 use Rattle.std.specs.Prelude.{All}
 use Rattle.std.specs.List.{flat_map, range_with_len, list_all}
 use Rattle.std.proofs.lemmas.List.{get_or_append_left, get_or-append_right}
@@ -9,14 +9,13 @@ use Rattle.std.proofs.lemmas.List.Folds.{list_all-append}
 use Rattle.std.proofs.lemmas.List.Sums.{sum_by-cons, sum_by-append}
 use Rattle.std.proofs.lemmas.List.Elements.{All-head, All-tail}
 use Rattle.mp_system.specs.declared.system.Task.{Task}
-use Rattle.graphs.specs.Graph.{IsAmong}
 use Rattle.shared_systems.specs.Shared.{SharedTaskSystem, SharedItem, HasTask, HasOwnShare, shared_size_if, shared_size_where, is_made_by}
-use Rattle.shared_systems.specs.Shared.{is_read_by_alone, shared_task_at, shared_outputs_of, own_inputs_of, shared_need_of}
+use Rattle.shared_systems.specs.Shared.{is_read_by_alone, shared_task_at, shared_need_of}
 use Rattle.shared_systems.specs.SharedMemory.{is_held}
-use Rattle.shared_systems.specs.Bounds.{IsSharedItemWithin, IsSharedSystem}
+use Rattle.shared_systems.specs.Bounds.{IsSharedItemWithin}
 use Rattle.joined_systems.specs.Joins.{join_count}
-use Rattle.joined_systems.specs.Joined.{join_between, join_after, released, joined_item, join_at, joined}
-use Rattle.joined_systems.proofs.JoinedItems.{makes_same, alone_same, alone_released, join_makes, through_ge, released_ge, is_given}
+use Rattle.joined_systems.specs.Joined.{join_between, released, joined_item, join_at, joined}
+use Rattle.joined_systems.proofs.JoinedItems.{makes_same, alone_same, alone_released, join_makes, through_ge, released_ge}
 
 -- ---- sums over the items that stand for these
 

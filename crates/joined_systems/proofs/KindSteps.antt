@@ -1,13 +1,12 @@
 -- How kinds part, and who meets in two lists.
-use Rattle.std.proofs.Common.{◌≡◌, ℕ, zero, suc, ◌+◌, ◌-◌, ◌<◌, ◌≤◌, Bool, true, false, cond, ◌&&◌, ◌||◌, eqb, List, [], ◌∷◌, ◌++◌, length, get_or}
+use Rattle.std.proofs.Common.{◌≡◌, ℕ, ◌+◌, ◌-◌, ◌<◌, ◌≤◌, Bool, true, false, cond, ◌&&◌, ◌||◌, eqb, List, [], ◌∷◌, ◌++◌, length, get_or}
 use Rattle.std.proofs.Common.{map, set, ◌≢◌, length-append, append_assoc, refl, sym, ap, subst, ◌∙◌, arith, inl, inr, below_more}
-use Rattle.std.specs.Prelude.{All, ◌↔◌, slice_index, replicate, unwrap_or, Option, Some, None}
-use Rattle.std.specs.List.{list_any, flat_map}
+use Rattle.std.specs.Prelude.{All, ◌↔◌, slice_index}
 use Rattle.std.proofs.lemmas.List.{get_or-append_right, get_or_append_left, get_or-set_same, get_or-set_other}
 use Rattle.std.proofs.lemmas.List.Elements.{All-nil, All-cons, All-append, All-weaker, All-head, All-tail}
 use Rattle.std.proofs.lemmas.Bool.{cases_Bool, cases_lt, cases_eq, ne_eqb}
 use Rattle.row_table.specs.Rows.{has, numbers_with}
-use Rattle.joined_systems.specs.Kinds.{meet, AreParts, ArePartedBy, AreFirsts, AreLeaders}
+use Rattle.joined_systems.specs.Kinds.{meet, AreParts, ArePartedBy, AreFirsts}
 use Rattle.joined_systems.proofs.JoinNumbers.{numbers_cons}
 
 -- ---- kinds
@@ -211,27 +210,3 @@ firsts_done kinds firsts leaders v are is = record {
   one = λ i j one two e. (are.each i (omega (arith, one, are.len))).0 ∙ ap (λ (k : ℕ). get_or firsts k 0) e
       ∙ sym ((are.each j (omega (arith, two, are.len))).0);
 }
-
--- tasks of the same kind have the same first task
-pub leaders_are : (supplies : ℕ → ℕ → Bool) (n : ℕ) (kinds leaders : List ℕ) → AreFirsts kinds leaders → length kinds ≡ n + 1
-    → ((u v : ℕ) → ((get_or kinds u 0 ≡ get_or kinds v 0) ↔ ((w : ℕ) → supplies u w ≡ supplies v w))) → AreLeaders supplies n leaders
-leaders_are supplies n kinds leaders are long same =
-    let back : (v : ℕ) → 1 ≤ v → v - 1 + 1 ≡ v = λ v some. omega (arith, some) in
-    let kind_is : (v : ℕ) → 1 ≤ v → v ≤ n → get_or kinds (get_or leaders (v - 1) 0) 0 ≡ get_or kinds v 0 =
-    λ v some le. are.kind (v - 1) (omega (arith, are.len, long, some, le)) ∙ ap (λ (w : ℕ). get_or kinds w 0) (back v some) in
-    let one : (u v : ℕ) → 1 ≤ u → u ≤ n → 1 ≤ v → v ≤ n → get_or kinds u 0 ≡ get_or kinds v 0
-    → get_or leaders (u - 1) 0 ≡ get_or leaders (v - 1) 0 =
-    λ u v some_u le_u some_v le_v e. are.one (u - 1) (v - 1) (omega (arith, are.len, long, some_u, le_u)) (omega (arith, are.len, long, some_v, le_v))
-    (ap (λ (w : ℕ). get_or kinds w 0) (back u some_u) ∙ e ∙ sym (ap (λ (w : ℕ). get_or kinds w 0) (back v some_v))) in
-    record {
-      len = omega (arith, are.len, long);
-      low = λ v some le. (let low = are.low (v - 1) (omega (arith, are.len, long, some, le)) in (low.0, omega (arith, low.1, some)));
-      own = λ v some le. (
-          let low = are.low (v - 1) (omega (arith, are.len, long, some, le)) in
-          one (get_or leaders (v - 1) 0) v low.0 (omega (arith, low.1, some, le)) some le (kind_is v some le)
-          );
-      same = λ u v some_u le_u some_v le_v. (
-        λ e. (same u v).0 (sym (kind_is u some_u le_u) ∙ ap (λ (w : ℕ). get_or kinds w 0) e ∙ kind_is v some_v le_v),
-        λ each. one u v some_u le_u some_v le_v ((same u v).1 each),
-      );
-    }

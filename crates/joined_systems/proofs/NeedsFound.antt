@@ -1,22 +1,21 @@
 -- Rows tell which tasks need a join.
-use Rattle.std.proofs.Common.{◌≡◌, ◌≢◌, ℕ, zero, suc, ◌+◌, ◌-◌, ◌<◌, ◌≤◌, Bool, true, false, eqb, List, [], ◌∷◌, length, get_or, map, take, max}
+use Rattle.std.proofs.Common.{◌≡◌, ◌≢◌, ℕ, zero, suc, ◌+◌, ◌-◌, ◌<◌, ◌≤◌, Bool, true, false, eqb, List, [], ◌∷◌, length, get_or, map}
 use Rattle.std.proofs.Common.{refl, sym, ap, subst, ◌∙◌, arith, inl, inr}
 use Rattle.std.specs.Prelude.{All, ◌↔◌, ◌⊎◌, slice_index}
-use Rattle.std.specs.List.{list_all, filter, range_with_len}
+use Rattle.std.specs.List.{list_all, range_with_len}
 use Rattle.std.specs.List.Sorted.{IsStrictlyIncreasing}
 use Rattle.std.proofs.lemmas.List.{length-map, get_or_past}
 use Rattle.std.proofs.lemmas.List.Kept.{IsStrictlyIncreasing-filter}
-use Rattle.std.proofs.lemmas.Bool.{cases_eq, cases_lt, and_from, eq-eqb}
+use Rattle.std.proofs.lemmas.Bool.{cases_eq, cases_lt, and_from}
 use Rattle.lists.proofs.Bools.{same_bool}
 use Rattle.lists.proofs.Lists.{range_rising}
 use Rattle.row_table.specs.Rows.{has, row_at, numbers_with}
 use Rattle.row_table.proofs.Keys.{each-number, filter-numbers}
 use Rattle.shared_systems.proofs.KeySums.{no_item}
-use Rattle.graphs.specs.Graph.{IsAmong}
-use Rattle.shared_systems.specs.Shared.{SharedTaskSystem, SharedItem, HasTask, shared_item_at}
+use Rattle.shared_systems.specs.Shared.{SharedTaskSystem, HasTask, shared_item_at}
 use Rattle.shared_systems.specs.Paths.{reads_from}
 use Rattle.shared_systems.specs.Bounds.{IsSharedItemWithin}
-use Rattle.joined_systems.specs.Joins.{AreJoins, HaveSameReaders, NeedsJoin, SuppliesWithAnother, ReadsWithAll}
+use Rattle.joined_systems.specs.Joins.{AreJoins, HaveSameReaders, NeedsJoin, ReadsWithAll}
 use Rattle.joined_systems.specs.Kinds.{makers, takers, meet, AreLeaders}
 use Rattle.joined_systems.specs.Needs.{HasTwo, IsReadByAll, TellsNeed, AreNumbers}
 use Rattle.joined_systems.proofs.JoinNumbers.{all_at}

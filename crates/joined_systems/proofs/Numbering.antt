@@ -1,11 +1,10 @@
 -- The numbers of joins, one task more.
-use Rattle.std.proofs.Common.{◌≡◌, ◌≢◌, ℕ, ◌+◌, ◌-◌, ◌<◌, ◌≤◌, Bool, true, false, List, [], ◌∷◌, ◌++◌, length, get_or, take, max}
-use Rattle.std.proofs.Common.{length-append, refl, sym, ap, subst, ◌∙◌, arith, inl, inr}
+use Rattle.std.proofs.Common.{◌≡◌, ◌≢◌, ℕ, ◌+◌, ◌-◌, ◌<◌, ◌≤◌, Bool, true, false, List, [], ◌∷◌, ◌++◌, length, get_or, take}
+use Rattle.std.proofs.Common.{length-append, refl, sym, ap, ◌∙◌, arith, inl, inr}
 use Rattle.std.specs.Prelude.{◌↔◌}
 use Rattle.std.proofs.lemmas.List.{get_or-append_right, get_or_append_left, take-append-le, take_all}
 use Rattle.std.proofs.lemmas.Bool.{cases_lt}
 use Rattle.joined_systems.specs.Joins.{join_count}
-use Rattle.joined_systems.specs.Needs.{AreNumbers}
 use Rattle.joined_systems.proofs.JoinNumbers.{count-push, join-le}
 
 pub record Numbered (leaders : List ℕ) (needs : List Bool) (joins : List ℕ) (n : ℕ) : Type 0 where
@@ -14,15 +13,6 @@ pub record Numbered (leaders : List ℕ) (needs : List Bool) (joins : List ℕ) 
   pub same : (i j : ℕ) → i < n → j < n → get_or joins i 0 ≢ 0 → get_or joins j 0 ≢ 0
       → ((get_or joins i 0 ≡ get_or joins j 0) ↔ (get_or leaders i 0 ≡ get_or leaders j 0))
   pub counted : (i : ℕ) → i < n → get_or joins i 0 ≤ join_count (take i joins) + 1
-
-pub numbers_done : (leaders : List ℕ) (needs : List Bool) (joins : List ℕ) (n : ℕ) → Numbered leaders needs joins n → n ≡ length leaders
-    → AreNumbers leaders needs joins
-numbers_done leaders needs joins n are is = record {
-  len = are.len ∙ is;
-  needed = λ i lt. are.needed i (omega (arith, lt, are.len));
-  same = λ i j one two. are.same i j (omega (arith, one, are.len)) (omega (arith, two, are.len));
-  counted = λ i lt. are.counted i (omega (arith, lt, are.len));
-}
 
 module _ (leaders : List ℕ) (needs : List Bool) (joins : List ℕ) (n x : ℕ) (are : Numbered leaders needs joins n)
     (need : (x ≢ 0) ↔ (get_or needs n false ≡ true)) (low : x ≤ join_count joins + 1)

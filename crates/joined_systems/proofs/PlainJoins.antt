@@ -1,18 +1,16 @@
 -- Each task and each item of the joined system is within the limits by itself.
-use Rattle.std.proofs.Common.{◌≡◌, ℕ, zero, suc, ◌+◌, ◌-◌, ◌*◌, ◌^◌, ◌<◌, ◌≤◌, Bool, true, false, not, eqb, List, [], ◌∷◌, ◌++◌, length, get_or, map}
-use Rattle.std.proofs.Common.{length-append, Option, Some, None, refl, sym, ap, subst, ◌∙◌, arith, inl, inr}
+use Rattle.std.proofs.Common.{◌≡◌, ℕ, zero, suc, ◌+◌, ◌-◌, ◌*◌, ◌^◌, ◌<◌, ◌≤◌, true, false, not, eqb, List, [], ◌∷◌, ◌++◌, length, get_or, map}
+use Rattle.std.proofs.Common.{Option, Some, refl, sym, ap, subst, ◌∙◌, arith}
 use Rattle.std.proofs.Math.Path.{fun_ext}
 use Rattle.std.specs.Prelude.{All}
 use Rattle.std.specs.List.{flat_map, sum_by, list_all, range_with_len}
 use Rattle.std.specs.List.Sorted.{IsStrictlyIncreasing}
-use Rattle.std.specs.Option.{ForSome}
 use Rattle.std.proofs.lemmas.List.{append-nil}
 use Rattle.std.proofs.lemmas.List.Sums.{sum_by-append}
-use Rattle.std.proofs.lemmas.List.Elements.{All-head, All-tail, All-nil, All-cons, All-append, All-weaker, All-map}
+use Rattle.std.proofs.lemmas.List.Elements.{All-head, All-tail, All-nil, All-cons, All-append, All-weaker}
 use Rattle.std.proofs.lemmas.Bool.{and_from, ne_eqb}
 use Rattle.lists.proofs.Bools.{eqb_same}
-use Rattle.lists.proofs.Lists.{sum_by-map}
-use Rattle.limits.specs.Limits.{most_tasks, most_positions, most_total, most_uses, most_size}
+use Rattle.limits.specs.Limits.{most_total}
 use Rattle.row_table.proofs.NumberLists.{rising-push}
 use Rattle.mp_system.specs.declared.system.Task.{Task}
 use Rattle.mp_system.specs.System.{IsTaskWithin, extra_size, is_named}
@@ -22,7 +20,7 @@ use Rattle.shared_systems.specs.Bounds.{IsSharedItemWithin, IsSharedSystem, read
 use Rattle.shared_systems.specs.Judged.{IsPlainShared, IsSharedFault}
 use Rattle.shared_systems.specs.declared.judged.SharedFault.{SharedFault}
 use Rattle.shared_systems.specs.declared.judged.SharedFault.TheVariants as faults
-use Rattle.joined_systems.specs.Joins.{join_count, join_of, tasks_of}
+use Rattle.joined_systems.specs.Joins.{join_count, tasks_of}
 use Rattle.joined_systems.specs.Joined.{join_task, join_between, join_after, through, released, joined_item, join_at, joined}
 use Rattle.joined_systems.specs.Few.{IsFew}
 use Rattle.joined_systems.proofs.JoinNumbers.{all_at}

@@ -1,11 +1,11 @@
 -- Orders of the joined system without the joins.
-use Rattle.std.proofs.Common.{◌≡◌, ℕ, ◌+◌, ◌≤◌, Bool, true, false, cond, not, ◌&&◌, ◌||◌, eqb, leb, List, [], ◌∷◌, ◌++◌, length}
+use Rattle.std.proofs.Common.{◌≡◌, ℕ, ◌+◌, ◌≤◌, Bool, true, false, leb, List, [], ◌∷◌, ◌++◌, length}
 use Rattle.std.proofs.Common.{append_assoc, refl, sym, ap, subst, ◌∙◌, arith, inl, inr}
-use Rattle.std.specs.Prelude.{All, count_by}
+use Rattle.std.specs.Prelude.{All}
 use Rattle.std.specs.List.{flat_map, list_all}
 use Rattle.std.proofs.lemmas.List.{append-nil}
 use Rattle.std.proofs.lemmas.List.Elements.{All-head, All-tail, All-nil, All-cons, filter-append}
-use Rattle.std.proofs.lemmas.Bool.{cases_Bool, and_parts, and_from, leb-true, leb-false, le-leb}
+use Rattle.std.proofs.lemmas.Bool.{cases_Bool, and_parts, and_from, leb-true, le-leb}
 use Rattle.mp_system.specs.Memory.{stands_in}
 use Rattle.shared_systems.specs.Shared.{SharedTaskSystem, SharedItem, HasTask}
 use Rattle.shared_systems.specs.SharedMemory.{shared_memory, has_inputs, shared_peak_from, shared_peak_of}
@@ -13,7 +13,6 @@ use Rattle.shared_systems.specs.SharedTraversal.{IsSharedTraversal}
 use Rattle.shared_systems.specs.Bounds.{IsSharedItemWithin}
 use Rattle.shared_systems.proofs.States.{memory_same, has_inputs_same}
 use Rattle.shared_systems.proofs.WithoutCollectors.{stands_dropped, count_dropped}
-use Rattle.joined_systems.specs.Joins.{join_count}
 use Rattle.joined_systems.specs.Joined.{join_between, join_after, join_task, released, joined_item, joined, without_joins}
 use Rattle.joined_systems.proofs.JoinedItems.{is_given, given_before, given_released}
 use Rattle.joined_systems.proofs.JoinedSystems.{all_cons, held_ge, task_count, need_is}

@@ -1,29 +1,27 @@
 -- An order of the system with its joins put in, each right after the last of its tasks: it is a traversal, with no higher peak.
-use Rattle.std.proofs.Common.{◌≡◌, ◌≢◌, ℕ, zero, suc, ◌+◌, ◌-◌, ◌<◌, ◌≤◌, Bool, true, false, cond, not, ◌&&◌, ◌||◌, eqb, leb, List, [], ◌∷◌}
+use Rattle.std.proofs.Common.{◌≡◌, ◌≢◌, ℕ, zero, suc, ◌+◌, ◌-◌, ◌≤◌, Bool, true, false, cond, ◌&&◌, ◌||◌, eqb, leb, List, [], ◌∷◌}
 use Rattle.std.proofs.Common.{◌++◌, length, get_or, append_assoc, refl, sym, ap, subst, ◌∙◌, arith, inl, inr}
-use Rattle.std.specs.Prelude.{All, count_by}
-use Rattle.std.specs.List.{flat_map, list_all, list_any}
+use Rattle.std.specs.Prelude.{All}
 use Rattle.std.proofs.lemmas.List.{append-nil}
 use Rattle.std.proofs.lemmas.List.Folds.{list_any-append}
 use Rattle.std.proofs.lemmas.List.Elements.{All-head, All-tail, All-nil, All-cons, All-append, filter-append}
-use Rattle.std.proofs.lemmas.Bool.{cases_Bool, cases_eq, cases_lt, and_parts, and_from, or_cases, eq-eqb, ne_eqb, eqb-true, le-leb, lt-leb}
+use Rattle.std.proofs.lemmas.Bool.{cases_Bool, cases_eq, cases_lt, or_cases, eq-eqb, ne_eqb, eqb-true, le-leb, lt-leb}
 use Rattle.lists.proofs.Bools.{same_bool, or_false}
 use Rattle.mp_system.specs.Memory.{stands_in}
-use Rattle.graphs.specs.Graph.{IsAmong}
-use Rattle.shared_systems.specs.Shared.{SharedTaskSystem, SharedItem, HasTask, HasOwnShare, shared_need_of}
+use Rattle.shared_systems.specs.Shared.{SharedTaskSystem, HasTask, HasOwnShare, shared_need_of}
 use Rattle.shared_systems.specs.SharedMemory.{shared_memory, shared_running, has_inputs, shared_peak_from, shared_peak_of}
 use Rattle.shared_systems.specs.SharedTraversal.{IsSharedTraversal}
-use Rattle.shared_systems.specs.Bounds.{IsSharedItemWithin, IsSharedSystem}
+use Rattle.shared_systems.specs.Bounds.{IsSharedSystem}
 use Rattle.shared_systems.proofs.States.{memory_same, has_inputs_same}
 use Rattle.shared_systems.proofs.Collectors.{count_of, count_of-cons, count_of-append, one_if, none_if, stands_counted}
 use Rattle.shared_systems.proofs.WithoutCollectors.{count_dropped}
 use Rattle.shared_systems.proofs.Steps.{stands_push, stands_more}
 use Rattle.shared_systems.proofs.Endings.{memory_later, own_freed}
-use Rattle.joined_systems.specs.Joins.{AreSafeJoins, join_of, tasks_of, join_count}
+use Rattle.joined_systems.specs.Joins.{AreSafeJoins, join_of, join_count}
 use Rattle.joined_systems.specs.Joined.{join_task, joined, without_joins}
 use Rattle.joined_systems.proofs.JoinNumbers.{all_at, all_from, join-le}
 use Rattle.joined_systems.proofs.JoinedSystems.{task_count, need_is, share_is, join_need}
-use Rattle.joined_systems.proofs.Inputs.{AllHave, have_nil, have_cons, have_at, closed, IsReadIn, all_read}
+use Rattle.joined_systems.proofs.Inputs.{AllHave, have_nil, have_cons, have_at, closed, all_read}
 use Rattle.joined_systems.proofs.JoinedStates.{all_of, of_join, held_is, has_task, has_join}
 
 -- the join after task v, which runs after those of `before`, where v is the last of its tasks

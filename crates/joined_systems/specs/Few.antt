@@ -1,6 +1,6 @@
 -- No public clause names this.
 -- A system has as many tasks, items and readers as there may be, and all extras and sizes together are within the limit.
-use Rattle.std.specs.Prelude.{ℕ, ◌+◌, ◌≤◌, length}
+use Rattle.std.specs.Prelude.{◌+◌, ◌≤◌, length}
 use Rattle.std.specs.List.{sum_by}
 use Rattle.limits.specs.Limits.{most_tasks, most_positions, most_total, most_uses}
 use Rattle.mp_system.specs.System.{extra_size}

@@ -1,6 +1,7 @@
 -- No public clause names this.
 -- Uses of what tasks make, one after the other, and kinds of tasks, which part as readers are looked at.
-use Rattle.std.specs.Prelude.{◌≡◌, ◌==◌, ◌↔◌, ℕ, ◌+◌, ◌-◌, ◌<◌, ◌≤◌, Bool, false, ◌&&◌, ◌||◌, unwrap_or, List, [], ◌∷◌, length, slice_index, replicate}
+use Rattle.std.specs.Prelude.{◌≡◌, ◌==◌, ◌↔◌, ℕ, ◌+◌, ◌-◌, ◌<◌, ◌≤◌, Bool}
+use Rattle.std.specs.Prelude.{false, ◌&&◌, ◌||◌, unwrap_or, List, [], ◌∷◌, length, slice_index, replicate}
 use Rattle.std.specs.List.{flat_map}
 use Rattle.shared_systems.specs.Shared.{SharedItem}
 

@@ -1,10 +1,10 @@
 -- No public clause names this.
 -- What tells that a task needs a join, by the first task with the same readers as each.
-use Rattle.std.specs.Prelude.{◌≡◌, ◌≢◌, ◌↔◌, ◌⊎◌, ℕ, ◌+◌, ◌-◌, ◌<◌, ◌≤◌, Bool, true, false, List, length, map, take, slice_index}
+use Rattle.std.specs.Prelude.{◌≡◌, ◌≢◌, ◌↔◌, ◌⊎◌, ℕ, ◌+◌, ◌<◌, ◌≤◌, Bool, true, false, List, length, map, take, slice_index}
 use Rattle.std.specs.Prelude.{slice_index_or}
 use Rattle.row_table.specs.Rows.{has, row_at, numbers_with}
-use Rattle.shared_systems.specs.Shared.{SharedTaskSystem, SharedItem, HasTask, shared_item_at}
-use Rattle.joined_systems.specs.Joins.{NeedsJoin, HaveSameReaders, join_of, join_count}
+use Rattle.shared_systems.specs.Shared.{SharedItem, shared_item_at}
+use Rattle.joined_systems.specs.Joins.{join_count}
 
 -- two numbers stand in a list, one less than the other
 pub record HasTwo (xs : List ℕ) : Type 0 where

@@ -1,6 +1,7 @@
 //! The joined system, where the joins are known.
 
-ghost use Rattle.std.specs.Prelude.{◌≡◌, ℕ, ◌+◌, ◌*◌, ◌<◌, ◌≤◌, ◌^◌, ◌++◌, All, [], ◌∷◌, ◌-◌, map, IfOk, OnOk, MatchOption, length, slice_index, unwrap_or};
+ghost use Rattle.std.specs.Prelude.{◌≡◌, ℕ, ◌+◌, ◌*◌, ◌<◌, ◌≤◌, ◌^◌, ◌++◌, All};
+ghost use Rattle.std.specs.Prelude.{[], ◌∷◌, ◌-◌, map, IfOk, OnOk, MatchOption, length, slice_index, unwrap_or};
 ghost use Rattle.std.specs.List.{sum_by, flat_map, range_with_len};
 ghost use Rattle.limits.specs.Limits.{most_positions, most_size, most_tasks};
 ghost use Rattle.row_table.specs.Rows.{row_at};
@@ -187,7 +188,8 @@ fn shares_of(
 fn tasks_of(alloc: Global, tasks: &[Task], shares: &[u64]) -> Result<Vec<Task>, NoMemory>
     requires { 1 ≤ length shares.now }
     ensures { IfOk result (λ made. made.items
-        ≡ tasks.now ++ map (λ k. record { extra = 0; share = slice_index shares.now k; time = 1 }) (range_with_len 1 (length shares.now - 1))) }
+        ≡ tasks.now ++ map (λ k. record { extra = 0; share = slice_index shares.now k; time = 1 })
+            (range_with_len 1 (length shares.now - 1))) }
 {
     let mut made = Vec::from_slice(alloc, tasks)?;
     for k in 1..shares.len() {

@@ -8,9 +8,9 @@ use crate::needs::joins_of;
 use shared_systems::SharedSystem;
 use std::alloc::Global;
 
-/// The system with its joins: tasks without need, numbered above its own, each of which comes after all the tasks that have the same readers,
-/// takes over all that these make for others, and hands it on. It is the system itself where that would not be within the limits. Linear in
-/// the tasks, the items and the readers of all items.
+/// The system with its joins: tasks without need, numbered above its own, each of which comes after all the tasks that have the same
+/// readers, takes over all that these make for others, and hands it on. It is the system itself where that would not be within the limits.
+/// Linear in the tasks, the items and the readers of all items.
 pub fn join_tasks(alloc: Global, system: &SharedSystem) -> Result<SharedSystem, NoMemory>
     ensures { IfOk result (IsJoinedOf system.now) }
 {

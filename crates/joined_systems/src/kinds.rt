@@ -49,7 +49,8 @@ fn part_of(parts: &mut Vec<usize>, kind: usize, start: usize) -> Result<usize, N
     requires parts { AreParts start parts.old.items }
     requires kind { kind < start }
     ensures parts { OnOk result (AreParts start parts.new.items) }
-    ensures kept { OnOk result ((c : ℕ) → start ≤ slice_index parts.old.items c → slice_index parts.new.items c ≡ slice_index parts.old.items c) }
+    ensures kept { OnOk result ((c : ℕ) → start ≤ slice_index parts.old.items c →
+        slice_index parts.new.items c ≡ slice_index parts.old.items c) }
     ensures part { IfOk result (λ part. (part ≡ slice_index parts.new.items kind) × (start ≤ part)) }
 {
     if parts[kind] < start {

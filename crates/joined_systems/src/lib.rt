@@ -1,6 +1,6 @@
-//! Shared systems with joins: tasks without need that come after all the tasks that supply several others together, take over all that these
-//! make for others, and hand it on. Nothing changes in memory, and what no series-parallel term could say of the system it can say of the
-//! joined one.
+//! Shared systems with joins: tasks without need, each of which comes after all the tasks that supply the same others, takes over all that
+//! these make for others, and hands it on. Nothing changes in memory. Where two tasks each supply both of two others no series-parallel
+//! term says so of the system, but one may of the joined system.
 //!
 //! The definitions stand in specs/: `Joins`, which tasks need a join; `Joined`, the system with its joins. The laws stand in [`laws`].
 #![tactic(auto)]

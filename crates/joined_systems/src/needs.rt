@@ -1,6 +1,7 @@
 //! Which tasks need a join, and the joins' numbers.
 
-ghost use Rattle.std.specs.Prelude.{◌≡◌, ◌≢◌, ℕ, ◌+◌, ◌-◌, ◌<◌, ◌≤◌, ◌^◌, ◌↔◌, All, IfOk, IsTrue, length, map, slice_index, slice_index_or, true, false};
+ghost use Rattle.std.specs.Prelude.{◌≡◌, ◌≢◌, ℕ, ◌+◌, ◌-◌, ◌<◌, ◌≤◌, ◌^◌, ◌↔◌};
+ghost use Rattle.std.specs.Prelude.{All, IfOk, IsTrue, length, map, slice_index, slice_index_or, true, false};
 ghost use Rattle.limits.specs.Limits.{most_tasks, most_uses};
 ghost use Rattle.row_table.specs.Rows.{has, row_at, numbers_with};
 ghost use Rattle.graphs.specs.Graph.{IsAmong};

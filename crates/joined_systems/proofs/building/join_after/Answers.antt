@@ -1,6 +1,6 @@
-use Rattle.std.proofs.Common.{◌≡◌, ◌-◌, ℕ, Bool, false, cond, get_or, length, ◌∙◌, sym, ap, arith, List}
+use Rattle.std.proofs.Common.{◌-◌, Bool, cond, get_or, ◌∙◌, sym, ap, arith}
 use Rattle.std.specs.Str.{bytes_eq}
-use Rattle.joined_systems.specs.Joins.{join_of, tasks_of}
+use Rattle.joined_systems.specs.Joins.{join_of}
 use Rattle.joined_systems.proofs.JoinNumbers.{join-le}
 use Rattle.joined_systems.proofs.JoinCode.{after_is}
 use Rattle.joined_systems.proofs.building.join_after.Goals as goal

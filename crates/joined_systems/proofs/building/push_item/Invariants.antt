@@ -1,5 +1,4 @@
 use Rattle.std.proofs.Common.{◌≡◌, take}
-use Rattle.shared_systems.specs.Growing.{ItemsSoFar}
 use Rattle.joined_systems.proofs.building.push_item.Given as goal
 
 abbrev pub invariant-loop-reader : goal.invariant-loop-reader

@@ -1,6 +1,5 @@
-use Rattle.std.proofs.Common.{◌≡◌, ℕ, ◌-◌, ◌++◌, get_or, map}
+use Rattle.std.proofs.Common.{◌≡◌, ◌-◌, ◌++◌, map}
 use Rattle.std.specs.List.{range_with_len}
-use Rattle.mp_system.specs.declared.system.Task.{Task}
 use Rattle.joined_systems.proofs.JoinCode.{join_with}
 use Rattle.joined_systems.proofs.building.tasks_of.Given as goal
 

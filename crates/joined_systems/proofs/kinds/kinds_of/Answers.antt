@@ -1,11 +1,11 @@
-use Rattle.std.proofs.Common.{◌≡◌, ℕ, List, [], ◌+◌, ◌<◌, length, get_or, map, drop, ap, sym, subst, refl, ◌∙◌, arith, inl, inr}
+use Rattle.std.proofs.Common.{◌≡◌, ℕ, List, [], ◌+◌, ◌<◌, length, map, drop, ap, sym, subst, ◌∙◌, arith, inl, inr}
 use Rattle.std.specs.Prelude.{slice_index}
 use Rattle.std.proofs.lemmas.List.Elements.{All-weaker}
 use Rattle.std.proofs.lemmas.Bool.{cases_lt}
 use Rattle.std.specs.List.{All}
 use Rattle.lists.proofs.Lists.{written}
 use Rattle.row_table.specs.Rows.{has}
-use Rattle.joined_systems.specs.Kinds.{meet, ArePartedBy}
+use Rattle.joined_systems.specs.Kinds.{ArePartedBy}
 use Rattle.joined_systems.proofs.KindSteps.{numbers_low, row_meets, same_next, none_past}
 use Rattle.joined_systems.proofs.kinds.kinds_of.Goals as goal
 

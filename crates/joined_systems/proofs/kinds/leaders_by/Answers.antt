@@ -1,9 +1,9 @@
-use Rattle.std.proofs.Common.{◌≡◌, ◌≢◌, ◌<◌, ◌∷◌, [], ◌++◌, ◌∙◌, ap, ℕ, List, get_or, set, length, arith, rules, sym, subst, refl}
+use Rattle.std.proofs.Common.{◌≡◌, ◌≢◌, ◌<◌, ◌∷◌, [], ◌++◌, ◌∙◌, ap, ℕ, List, get_or, set, length, arith, sym, refl}
 use Rattle.std.proofs.Math.ListN.{length-set}
 use Rattle.std.proofs.lemmas.List.{get_or_default, length-replicate}
 use Rattle.std.proofs.Common.{zero, suc}
 use Rattle.std.specs.Prelude.{replicate}
-use Rattle.joined_systems.proofs.KindSteps.{Firsts, first_new, first_kept, firsts_done}
+use Rattle.joined_systems.proofs.KindSteps.{first_new, first_kept, firsts_done}
 use Rattle.std.proofs.Common.{Vec}
 use Rattle.joined_systems.proofs.kinds.leaders_by.Goals as goal
 use Rattle.joined_systems.proofs.kinds.leaders_by.Goals.{then-index-eq0, else-index-eq0}

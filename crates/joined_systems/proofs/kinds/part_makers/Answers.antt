@@ -1,4 +1,4 @@
-use Rattle.std.proofs.Common.{ℕ, length, get_or, map, take, ap, sym, subst, List, ◌∙◌, ◌<◌, arith}
+use Rattle.std.proofs.Common.{ℕ, get_or, map, ◌<◌, arith}
 use Rattle.std.proofs.lemmas.List.{take_all}
 use Rattle.row_table.specs.Rows.{has}
 use Rattle.joined_systems.proofs.KindSteps.{parted_by}

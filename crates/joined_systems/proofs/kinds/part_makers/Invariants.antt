@@ -1,4 +1,4 @@
-use Rattle.std.proofs.Common.{◌≡◌, ◌≤◌, ◌<◌, ℕ, true, false, get_or, length, map, take}
+use Rattle.std.proofs.Common.{◌≡◌, ◌≤◌, ℕ, true, false, get_or, map, take}
 use Rattle.row_table.specs.Rows.{has}
 use Rattle.joined_systems.specs.Kinds.{AreParts}
 use Rattle.joined_systems.proofs.kinds.part_makers.Given as goal

@@ -1,13 +1,12 @@
 -- Where joins were put in, this is what the laws say of them; otherwise nothing is left out of an order.
-use Rattle.std.proofs.Common.{◌≡◌, ◌≤◌, ℕ, List, length, refl, sym, ap, subst, ◌∙◌, arith, inl, inr}
+use Rattle.std.proofs.Common.{◌≡◌, ◌≤◌, ℕ, List, length, sym, ap, subst, ◌∙◌, arith, inl, inr}
 use Rattle.std.proofs.lemmas.List.Elements.{All-weaker}
 use Rattle.shared_systems.specs.Shared.{SharedTaskSystem, HasTask}
 use Rattle.shared_systems.specs.SharedMemory.{shared_peak_of}
 use Rattle.shared_systems.specs.SharedTraversal.{IsSharedTraversal, IsLeastShared}
 use Rattle.shared_systems.specs.Bounds.{IsSharedSystem}
-use Rattle.joined_systems.specs.Joined.{joined, without_joins, IsJoinedOf}
+use Rattle.joined_systems.specs.Joined.{without_joins}
 use Rattle.joined_systems.proofs.WithoutJoins.{without_none}
-use Rattle.joined_systems.proofs.SameLeast.{least_there, least_here}
 use Rattle.joined_systems.proofs.laws.joined_law.Goals as goal
 
 nothing_left : (system : SharedTaskSystem) (order : List ℕ) → IsSharedTraversal system order → without_joins (length system.tasks) order ≡ order

@@ -1,4 +1,4 @@
-use Rattle.std.proofs.Common.{◌≡◌, ℕ, [], length, ap, arith}
+use Rattle.std.proofs.Common.{◌≡◌, [], length, ap, arith}
 use Rattle.shared_systems.specs.SharedMemory.{shared_peak_of}
 use Rattle.joined_systems.specs.Joined.{joined}
 use Rattle.joined_systems.proofs.WovenJoins.{woven, traversal_woven, peak_woven, without_woven}

@@ -1,7 +1,5 @@
-use Rattle.std.proofs.Common.{List, ℕ, ◌≡◌, ◌<◌, ◌+◌, ◌∙◌, length, arith, ap, sym, subst}
+use Rattle.std.proofs.Common.{List, ℕ, ◌<◌, ◌+◌, ◌∙◌, length, arith, ap, sym, subst}
 use Rattle.std.specs.List.{All}
-use Rattle.shared_systems.specs.Shared.{SharedItem}
-use Rattle.shared_systems.specs.Bounds.{IsSharedItemWithin}
 use Rattle.mp_system.specs.declared.system.Task.{Task}
 use Rattle.joined_systems.specs.Kinds.{makers, takers}
 use Rattle.joined_systems.proofs.UsesMeet.{makers_long, takers_long, makers_low, takers_low}

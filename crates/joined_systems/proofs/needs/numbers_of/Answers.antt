@@ -1,7 +1,7 @@
-use Rattle.std.proofs.Common.{◌≡◌, ◌≢◌, ◌<◌, ◌-◌, ◌+◌, ◌∷◌, ◌++◌, [], ◌∙◌, ℕ, Bool, List, true, false, get_or, length, arith, ap, sym, Vec, refl}
+use Rattle.std.proofs.Common.{◌≡◌, ◌≢◌, ◌<◌, ◌-◌, ◌+◌, ◌∷◌, ◌++◌, [], ◌∙◌, ℕ, get_or, arith, ap, Vec}
 use Rattle.std.proofs.lemmas.List.{get_or_default}
 use Rattle.joined_systems.specs.Joins.{join_count}
-use Rattle.joined_systems.proofs.Numbering.{number_none, number_next, number_again, count_next, count_kept, count_zero, numbers_done}
+use Rattle.joined_systems.proofs.Numbering.{number_none, number_next, number_again, count_next, count_kept, count_zero}
 use Rattle.joined_systems.proofs.needs.numbers_of.Goals as goal
 use Rattle.joined_systems.proofs.needs.numbers_of.Goals.{then-not-needs-i+in_ok-push, else-not-needs-i+then-leader-i+in_ok-push-2, else-not-needs-i+else-leader-i+in_ok-push-3}
 

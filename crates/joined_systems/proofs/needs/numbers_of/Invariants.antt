@@ -1,4 +1,4 @@
-use Rattle.std.proofs.Common.{◌≡◌, ◌≤◌, take}
+use Rattle.std.proofs.Common.{◌≡◌, ◌≤◌}
 use Rattle.joined_systems.specs.Joins.{join_count}
 use Rattle.joined_systems.proofs.Numbering.{Numbered}
 use Rattle.joined_systems.proofs.needs.numbers_of.Given as goal

@@ -1,5 +1,4 @@
-use Rattle.std.proofs.Common.{◌≡◌, ◌<◌, ◌-◌, ◌∙◌, ℕ, Bool, List, true, false, get_or, set, length, arith, ap, sym, Vec}
-use Rattle.std.specs.Str.{bytes_eq}
+use Rattle.std.proofs.Common.{◌≡◌, ◌<◌, ◌-◌, ◌∙◌, ℕ, Bool, List, true, get_or, set, length, arith, ap, sym, Vec}
 use Rattle.std.proofs.Math.ListN.{length-set}
 use Rattle.joined_systems.proofs.Marks.{mark_few, mark_other, mark_this}
 use Rattle.joined_systems.proofs.needs.released_of.Goals as goal
