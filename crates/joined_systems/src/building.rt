@@ -189,7 +189,7 @@ fn tasks_of(alloc: Global, tasks: &[Task], shares: &[u64]) -> Result<Vec<Task>, 
     requires { 1 ≤ length shares.now }
     ensures { IfOk result (λ made. made.items
         ≡ tasks.now ++ map (λ k. record { extra = 0; share = slice_index shares.now k; time = 1 })
-            (range_with_len 1 (length shares.now - 1))) }
+        (range_with_len 1 (length shares.now - 1))) }
 {
     let mut made = Vec::from_slice(alloc, tasks)?;
     for k in 1..shares.len() {

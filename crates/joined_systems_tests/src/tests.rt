@@ -2,7 +2,9 @@
 
 use joined_systems::join_tasks;
 use mp_system::GivenTask;
-use shared_systems::{GivenSharedItem, SharedItems, SharedRefusal, SharedSystem, shared_system_of_arrays};
+use shared_systems::{
+    GivenSharedItem, SharedItems, SharedRefusal, SharedSystem, shared_system_of_arrays,
+};
 use std::alloc::Global;
 use std::process::Abort;
 use std::rt::HostRuntime;
