@@ -286,6 +286,7 @@ MEANINGS: Dict[str, object] = {
     "plan order": "The order has one task on each line: is the number behind `order` right?",
     "plan number": lambda case: next((f"{wrong_token(it)}." for it in case.tokens if it not in "FR" and wrong_token(it)), "A number is too great."),
     "plan priority": "The priority is empty, or has each task once.",
+    "plan amount": "An amount is `PLACE AMOUNT`, by rising places from 1: is the number behind `base` or `blocker` right?",
     "plan claim": "A claim is `POSITION F|R BOUND REST`, by rising positions: is the number behind `claims` right?",
 }
 for kind in ("tree", "workflow", "graph", "plan"):

@@ -58,7 +58,7 @@ KINDS = {
     "matrix": "banner not-matrix array-format field symmetry size-line not-square entry index too-few too-many",
     "perm": "number range repeated count",
     "order": "number",
-    "plan": "header number section order priority claim no-end",
+    "plan": "header number section order priority claim amount no-end",
     "priority": "number range repeated count",
 }
 
