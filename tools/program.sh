@@ -102,18 +102,20 @@ lanes() {
         END { n = fit < most ? fit : most; print n < 1 ? 1 : n }' /proc/meminfo
 }
 
+# Each line of tools/toolchain.txt is a version that builds the same bytes.
 has_toolchain() {
-    local wanted version
-    wanted=$(cat "$here/tools/toolchain.txt")
+    local known wanted= version=
+    ! command -v rt >/dev/null || version=$(rt version 2>&1)
+    while read -r known; do
+        [ "$known" != "$version" ] || return 0
+        wanted=$wanted${wanted:+ or }$known
+    done <"$here/tools/toolchain.txt"
     if ! command -v rt >/dev/null; then
         tell "to build the program the Rattle toolchain is wanted, $wanted, and there is no rt on PATH: see README.md, 'Set up'"
-        return 1
-    fi
-    version=$(rt version 2>&1)
-    if [ "$version" != "$wanted" ]; then
+    else
         tell "to build the program the Rattle toolchain is wanted, $wanted, and the rt on PATH is $version"
-        return 1
     fi
+    return 1
 }
 
 # Copies the crates that the program is made of, and takes along what was proved of them before: of the others, those of tests and the library

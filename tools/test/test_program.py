@@ -70,7 +70,7 @@ class Repository:
         self.toolchain.mkdir()
         told = {
             "rt": STAND_IN,
-            "version": (ROOT / "tools/toolchain.txt").read_text(),
+            "version": (ROOT / "tools/toolchain.txt").read_text().splitlines()[-1],
             "seconds": "0",
             "program": str(PROGRAM),
             "calls": "",
