@@ -18,16 +18,16 @@ use Rattle.shared_systems.specs.SharedMemory.{is_held, are_done, is_made, has_in
 use Rattle.shared_systems.specs.SharedTraversal.{IsSharedTraversal}
 use Rattle.shared_systems.specs.Bounds.{IsSharedSystem}
 use Rattle.shared_systems.specs.Paths.{reads_from, ComesAfter, reads, over}
-use Rattle.shared_systems.proofs.PeakBounds.{peak_running}
+use Rattle.shared_systems.proofs.PeakBounds.{peak_state, peak_running}
 use Rattle.peak_bounds.specs.declared.step.Event.{Event}
 use Rattle.peak_bounds.specs.declared.step.Event.TheVariants.{First, Last}
 use Rattle.peak_bounds.specs.declared.evidence.Evidence.{Evidence}
-use Rattle.peak_bounds.specs.declared.evidence.Evidence.TheVariants.{Need, Set}
+use Rattle.peak_bounds.specs.declared.evidence.Evidence.TheVariants.{Start, Need, Set}
 use Rattle.peak_bounds.specs.declared.evidence.BlockerTest.TheVariants as tests
 use Rattle.peak_bounds.specs.EventSets.{BlockerValue, EventSetValue}
 use Rattle.peak_bounds.specs.Moments.{Moment, FitSizes, IsMoment, is_done, is_waiting, feeds, is_fed, level_of}
 use Rattle.peak_bounds.specs.Steps.{Starts, early_from, late_from}
-use Rattle.peak_bounds.specs.Evidence.{use_count, task_of, set_tasks, HasRun, Waits, IsMomentOf, blocker_at, Passes, IsEventSet, memory_of_task, IsEvidence}
+use Rattle.peak_bounds.specs.Evidence.{use_count, task_of, set_tasks, HasRun, Waits, IsMomentOf, blocker_at, Passes, IsEventSet, memory_at_start, memory_of_task, IsEvidence}
 use Rattle.peak_bounds.proofs.Lists.{marked_within, split_at}
 use Rattle.peak_bounds.proofs.Orders.{stands, alone_at}
 use Rattle.peak_bounds.proofs.AtMoment.{moment-le}
@@ -258,6 +258,10 @@ module _ (system : SharedTaskSystem) (is : IsSharedSystem system) (order : List 
       let held = held-ge (stands_in at.before) t apart system.items (traversal.after_suppliers at.before at.rest t at.split) in
       omega (arith, high, held)
 
+  start_bound : memory_at_start system ≤ shared_peak_of system order
+  start_bound = peak_state system order [] order refl
+
   pub evidence_bound : (evidence : Evidence) (bound : ℕ) → IsEvidence system evidence bound → bound ≤ shared_peak_of system order
+  evidence_bound Start bound h = omega (arith, h, start_bound)
   evidence_bound (Need t) bound h = omega (arith, h.1, need_bound t h.0)
   evidence_bound (Set set) bound h = set_bound system is order traversal set bound h

@@ -11,5 +11,8 @@ pub mod Searching
 pub mod UseLists
 pub mod UseTotals
 pub mod Verdicts
+pub mod Parts
+pub mod Objections
 pub mod Links
+pub mod Marking
 pub mod Told

@@ -1,9 +1,9 @@
 -- What a search over the uses of a system reaches is what comes after, or before.
-use Rattle.std.proofs.Common.{◌≡◌, ◌≢◌, ◌⊎◌, ℕ, ◌-◌, ◌<◌, ◌≤◌, Bool, true, false, ◌&&◌, leb, set, subst, eqb, eq-eqb, List, length, map, get_or, Option, Some, None, unwrap_or}
+use Rattle.std.proofs.Common.{◌≡◌, ◌⊎◌, ℕ, ◌<◌, ◌≤◌, Bool, true, subst, eqb, eq-eqb, List, length, map, get_or, Option, Some, None, unwrap_or}
 use Rattle.std.proofs.Common.{sym, ap, ◌∙◌, arith, inl, inr}
 use Rattle.std.proofs.lemmas.Bool.{and_parts, and_from}
 use Rattle.std.specs.Prelude.{All}
-use Rattle.std.proofs.lemmas.List.{get_or-map, length-map, get_or-set_same, get_or-set_other}
+use Rattle.std.proofs.lemmas.List.{get_or-map, length-map}
 use Rattle.std.proofs.lemmas.List.Folds.{list_any_at}
 use Rattle.mp_system.specs.System.{is_named}
 use Rattle.mp_system.specs.Memory.{stands_in}
@@ -16,7 +16,6 @@ use Rattle.peak_bounds.specs.declared.use_table.UseTable.{UseTable}
 use Rattle.peak_bounds.specs.Moments.{uses_of, is_made_for_use, is_used_by}
 use Rattle.peak_bounds.specs.Judging.{maker_of, taker_of, AreUses, IsLink, Reaches, one, more, AreReached}
 use Rattle.peak_bounds.specs.Evidence.{IsBeforeOne, IsAfterOne}
-use Rattle.peak_bounds.proofs.Lists.{marked_within}
 use Rattle.peak_bounds.proofs.Orders.{all_stands}
 use Rattle.peak_bounds.proofs.Following.{no_use, is_the, is_between, between_is, use_at, maker_task, taker_task, joined}
 
@@ -169,20 +168,3 @@ module _ (system : SharedTaskSystem) (within : IsSharedSystem system) (uses : Us
       | inl old ↦ at_forth.kept v (is_now v old)
       | inr path ↦ at_forth.all v (path.0, back_there path.0 path.1, reaches_forth system within uses are path.0 v path.2)
     ]
-
--- ---- a mark that is taken back
-
-pub unmark : (marks : List Bool) (t v : ℕ) → 1 ≤ t → t ≤ length marks → is_marked (set marks (t - 1) false) v ≡ true → (is_marked marks v ≡ true) × (v ≢ t)
-unmark marks t v low high e = (let apart : v ≢ t = λ same. gone same in (other apart, apart)) where
-  gone : v ≡ t → ⊥
-  gone same =
-      let parts = and_parts (leb 1 v) (get_or (set marks (t - 1) false) (v - 1) false) e in
-      let at : get_or (set marks (t - 1) false) (v - 1) false ≡ false = ap (λ (u : ℕ). get_or (set marks (t - 1) false) (u - 1) false) same ∙ get_or-set_same marks (t - 1) false false (omega (arith, low, high)) in
-      let f : true ≡ false = sym parts.1 ∙ at in
-      absurd cc
-
-  other : v ≢ t → is_marked marks v ≡ true
-  other apart =
-      let some = (marked_within (set marks (t - 1) false) v e).0 in
-      let at = get_or-set_other marks (t - 1) (v - 1) false false (λ same. apart (omega (arith, same, some, low))) in
-      ap (λ (b : Bool). leb 1 v && b) (sym at) ∙ e

@@ -1,12 +1,12 @@
 -- Lowered sizes as they are told, item by item and place by place.
-use Rattle.std.proofs.Common.{◌≡◌, ◌↔◌, ℕ, ◌+◌, ◌<◌, ◌≤◌, Bool, true, false, eqb, List, [], ◌∷◌, ◌++◌, length, map, take, drop}
+use Rattle.std.proofs.Common.{◌≡◌, ◌⊎◌, ◌↔◌, ℕ, ◌+◌, ◌<◌, ◌≤◌, Bool, true, false, eqb, List, [], ◌∷◌, ◌++◌, length, map, take, drop}
 use Rattle.std.proofs.Common.{get_or, None, refl, sym, ap, subst, ◌∙◌, arith, length-append, inl, inr, cond}
 use Rattle.std.specs.Prelude.{ℤ, pos, negsuc, ◌+ℤ◌, ◌≤ℤ◌, All, unsigned_abs}
 use Rattle.std.proofs.Common.{neg_ℤ}
 use Rattle.std.specs.List.{sum_by}
 use Rattle.std.proofs.lemmas.Int.{ints}
 use Rattle.std.proofs.lemmas.Bool.{cases_Bool}
-use Rattle.std.proofs.lemmas.List.{drop_more, drop-drop, get_or-map, same_lists, get_or_default, take_more}
+use Rattle.std.proofs.lemmas.List.{drop_more, drop_all, drop-drop, get_or-map, same_lists, ext_get_or, get_or_default, take_more}
 use Rattle.std.proofs.lemmas.List.FromFn.{length-map-range_with_len, get_or-map-range_with_len}
 use Rattle.std.proofs.lemmas.List.Elements.{All-head, All-tail}
 use Rattle.std.proofs.lemmas.List.Sums.{sum_by-cons, sum_by_more_le_part, sum_by_more}
@@ -62,6 +62,13 @@ lowered-is count base own first second len_first len_second told own_told =
     get_or_default second k d (pos 0) lt ∙ own_told k short ∙ ap (λ (z : ℤ). amount_or z own (k + 1)) (told k short)
     ∙ sym (get_or-map-range_with_len (λ place. amount_or (amount_or (pos 0) base place) own place) 1 count k (k + 1) d short (omega arith)))
 
+-- what a set tells of a place, where a blocker tells nothing
+pub base_told : (count : ℕ) (base : List Amount) (sizes : List ℤ) → sizes ≡ lowered_by count base [] → (k : ℕ) → k < count
+    → size_at sizes k ≡ amount_or (pos 0) base (k + 1)
+base_told count base sizes is k lt =
+    ap (λ (l : List ℤ). size_at l k) is
+    ∙ get_or-map-range_with_len (λ place. amount_or (amount_or (pos 0) base place) [] place) 1 count k (k + 1) (pos 0) lt (omega arith)
+
 amount-small : (other : ℤ) (count : ℕ) (amounts : List Amount) (place : ℕ) → unsigned_abs other ≤ most_total → All (IsAmount count) amounts
     → unsigned_abs (amount_or other amounts place) ≤ most_total
 amount-small other count [] place small each = small
@@ -76,6 +83,19 @@ lowered-small count base own base_each own_each k d lt =
     subst (λ (z : ℤ). unsigned_abs z ≤ most_total)
     (sym (get_or-map-range_with_len (λ place. amount_or (amount_or (pos 0) base place) own place) 1 count k (k + 1) d short (omega arith)))
     (amount-small (amount_or (pos 0) base (k + 1)) count own (k + 1) (amount-small (pos 0) count base (k + 1) (omega arith) base_each) own_each)
+
+-- ---- amounts that are taken back
+
+-- what is told of a place of these is still there, or what was there before is again
+abbrev pub IsTaken : List ℤ → List ℤ → List Amount → ℕ → Type 0
+IsTaken sizes base amounts k = (size_at sizes k ≡ size_at base k) ⊎ (size_at sizes k ≡ amount_or (size_at base k) amounts (k + 1))
+
+pub all_taken : (sizes base : List ℤ) (amounts : List Amount) (i : ℕ) → length sizes ≡ length base → length amounts ≤ i
+    → ((k : ℕ) → k < length sizes → IsTaken sizes base (drop i amounts) k) → sizes ≡ base
+all_taken sizes base amounts i len past each = ext_get_or (pos 0) sizes base len (λ k lt. elim (each k lt) [
+  | inl back ↦ back
+  | inr there ↦ there ∙ ap (λ (l : List Amount). amount_or (size_at base k) l (k + 1)) (drop_all i amounts past)
+])
 
 -- ---- one item more
 

@@ -13,7 +13,7 @@ use Rattle.shared_systems.specs.Bounds.{IsSharedSystem}
 use Rattle.peak_bounds.specs.declared.step.Event.{Event}
 use Rattle.peak_bounds.specs.declared.evidence.Amount.{Amount}
 use Rattle.peak_bounds.specs.declared.evidence.Evidence.{Evidence}
-use Rattle.peak_bounds.specs.declared.evidence.Evidence.TheVariants.{Need, Set}
+use Rattle.peak_bounds.specs.declared.evidence.Evidence.TheVariants.{Start, Need, Set}
 use Rattle.peak_bounds.specs.declared.evidence.BlockerTest.{BlockerTest}
 use Rattle.peak_bounds.specs.declared.evidence.BlockerTest.TheVariants as tests
 use Rattle.peak_bounds.specs.declared.evidence.Objection.{Objection}
@@ -153,6 +153,13 @@ set_refuted system set bound objections.Empty objection is = omega (arith, is.so
 set_refuted system set bound objections.Base objection is = objection.1 is.base
 set_refuted system set bound (objections.Blocker test place) objection is = objection.first.fails (is.each test place objection.first.is_place)
 
+start_refuted : (system : SharedTaskSystem) (bound : ℕ) (o : Objection) → IsObjection system Start bound o → IsEvidence system Start bound → ⊥
+start_refuted system bound objections.NoTask objection is = objection
+start_refuted system bound objections.Low objection is = omega (arith, objection, is)
+start_refuted system bound objections.Empty objection is = objection
+start_refuted system bound objections.Base objection is = objection
+start_refuted system bound (objections.Blocker test place) objection is = objection
+
 need_refuted : (system : SharedTaskSystem) (t bound : ℕ) (o : Objection) → IsObjection system (Need t) bound o → IsEvidence system (Need t) bound → ⊥
 need_refuted system t bound objections.NoTask objection is = objection is.0
 need_refuted system t bound objections.Low objection is = omega (arith, objection.1, is.1)
@@ -160,7 +167,8 @@ need_refuted system t bound objections.Empty objection is = objection
 need_refuted system t bound objections.Base objection is = objection
 need_refuted system t bound (objections.Blocker test place) objection is = objection
 
-refuted : (system : SharedTaskSystem) (evidence : Evidence) (bound : ℕ) (o : Objection) → IsObjection system evidence bound o → IsEvidence system evidence bound → ⊥
+pub refuted : (system : SharedTaskSystem) (evidence : Evidence) (bound : ℕ) (o : Objection) → IsObjection system evidence bound o → IsEvidence system evidence bound → ⊥
+refuted system Start bound o objection is = start_refuted system bound o objection is
 refuted system (Need t) bound o objection is = need_refuted system t bound o objection is
 refuted system (Set set) bound o objection is = set_refuted system set bound o objection is
 

@@ -1,5 +1,5 @@
--- Evidence that no traversal of a shared system has a peak below a bound: the need of one task; or a set of tasks, of which in every
--- traversal one starts first and one starts last, and lowered sizes that bound the memory at each of these moments.
+-- Evidence that no traversal of a shared system has a peak below a bound: what is there at the start; the need of one task; or a set of tasks,
+-- of which in every traversal one starts first and one starts last, and lowered sizes that bound the memory at each of these moments.
 use Rattle.std.specs.Prelude.{◌≡◌, ◌≢◌, ◌==◌, ℕ, ◌+◌, ◌-◌, ◌<◌, ◌≤◌, true, false, if◌then◌else◌, ◌⊎◌, List, [], ◌∷◌, length, map}
 use Rattle.std.specs.Prelude.{slice_index_or, ℤ, pos, ◌≤ℤ◌, unsigned_abs, All}
 use Rattle.std.specs.List.{range_with_len}
@@ -8,12 +8,13 @@ use Rattle.limits.specs.Limits.{most_total}
 use Rattle.lists.specs.Numbers.{Each, IsFirstWithout}
 use Rattle.mp_system.specs.Memory.{stands_in}
 use Rattle.shared_systems.specs.Shared.{SharedTaskSystem, HasTask, is_read_by, shared_size_where, shared_need_of}
+use Rattle.shared_systems.specs.SharedMemory.{shared_memory}
 use Rattle.shared_systems.specs.Paths.{ComesAfter}
 use Rattle.peak_bounds.specs.declared.step.Event.{Event}
 use Rattle.peak_bounds.specs.declared.step.Event.TheVariants.{First, Last}
 use Rattle.peak_bounds.specs.declared.evidence.Amount.{Amount}
 use Rattle.peak_bounds.specs.declared.evidence.Evidence.{Evidence}
-use Rattle.peak_bounds.specs.declared.evidence.Evidence.TheVariants.{Need, Set}
+use Rattle.peak_bounds.specs.declared.evidence.Evidence.TheVariants.{Start, Need, Set}
 use Rattle.peak_bounds.specs.declared.evidence.BlockerTest.{BlockerTest}
 use Rattle.peak_bounds.specs.declared.evidence.BlockerTest.TheVariants as tests
 use Rattle.peak_bounds.specs.declared.evidence.Objection.{Objection}
@@ -123,11 +124,16 @@ pub record IsEventSet (system : SharedTaskSystem) (set : EventSetValue) (bound :
   pub base : AreAmounts (use_count system) set.base
   pub each : (test : BlockerTest) → EachPasses system set bound test
 
+-- what is there before any task has run
+abbrev pub memory_at_start : SharedTaskSystem → ℕ
+memory_at_start system = shared_memory system (λ v. false)
+
 -- what a task reads and what it needs beside that, together
 abbrev pub memory_of_task : SharedTaskSystem → ℕ → ℕ
 memory_of_task system t = shared_size_where (is_read_by t) system.items + shared_need_of system t
 
 abbrev pub IsEvidence : SharedTaskSystem → Evidence → ℕ → Type 0
+IsEvidence system Start bound = bound ≤ memory_at_start system
 IsEvidence system (Need t) bound = HasTask system t × (bound ≤ memory_of_task system t)
 IsEvidence system (Set set) bound = IsEventSet system set bound
 
@@ -160,6 +166,8 @@ pub record IsFirstFailing (system : SharedTaskSystem) (set : EventSetValue) (bou
 
 -- what is said against evidence: the first thing that it does not meet
 abbrev pub IsObjection : SharedTaskSystem → Evidence → ℕ → Objection → Type 0
+IsObjection system Start bound objections.Low = memory_at_start system < bound
+IsObjection system Start bound _ = ⊥
 IsObjection system (Need t) bound objections.NoTask = ¬ HasTask system t
 IsObjection system (Need t) bound objections.Low = HasTask system t × (memory_of_task system t < bound)
 IsObjection system (Need t) bound _ = ⊥

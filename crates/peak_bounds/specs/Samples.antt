@@ -10,7 +10,7 @@ use Rattle.peak_bounds.specs.declared.step.Event.TheVariants.{Last}
 use Rattle.peak_bounds.specs.declared.evidence.Amount.{Amount}
 use Rattle.peak_bounds.specs.EventSets.{EventSetValue}
 use Rattle.peak_bounds.specs.Moments.{uses_of, is_used_by, is_made_for_use, lowered_where, Moment, level_of}
-use Rattle.peak_bounds.specs.Evidence.{lowered_by, blocker_at, set_tasks, memory_of_task}
+use Rattle.peak_bounds.specs.Evidence.{lowered_by, blocker_at, set_tasks, memory_at_start, memory_of_task}
 
 abbrev pub task : ℕ → Task
 task extra = record { extra = extra; share = 0; time = 1 }
@@ -88,3 +88,13 @@ one_level = refl
 -- by the need of one task: task 5 reads 10
 pub five_needs : memory_of_task five 5 ≡ 10
 five_needs = refl
+
+-- by what is there at the start: a system without tasks, with one item of 7
+abbrev pub idle : SharedTaskSystem
+idle = record { tasks = []; items = record { size = 7; from = None; readers = [] } ∷ [] }
+
+pub idle_starts : memory_at_start idle ≡ 7
+idle_starts = refl
+
+pub idle_peak : shared_peak_of idle [] ≡ 7
+idle_peak = refl

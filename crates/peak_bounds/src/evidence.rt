@@ -100,6 +100,8 @@ impl EventSet {
 /// Evidence for a lower bound on the peak of every traversal.
 #[derive(Drop)]
 pub enum Evidence {
+    /// What is there before any task has run.
+    Start,
     /// What this task reads and needs.
     Need(u32),
     /// That one of these tasks starts first, or last.
@@ -128,7 +130,7 @@ pub enum BlockerTest {
 pub enum Objection {
     /// It is the need of no task.
     NoTask,
-    /// What the task reads and needs is below the bound.
+    /// What is there before any task has run, or what the task reads and needs, is below the bound.
     Low,
     /// There is no blocker.
     Empty,

@@ -1,25 +1,26 @@
 //! The judge of evidence.
 
-ghost use Rattle.std.specs.Prelude.{◌≡◌, ◌+◌, ◌<◌, ◌≤◌, ◌↔◌, ℕ, List, IfOk, IsTrue, IsNone, MatchOption, length};
+ghost use Rattle.std.specs.Prelude.{◌≡◌, ◌+◌, ◌<◌, ◌≤◌, ◌↔◌, ℕ, List, IfOk, IsTrue, IsNone, MatchOption, MatchResult, length};
+ghost use Rattle.limits.specs.Limits.{most_workers};
 ghost use Rattle.lists.specs.Numbers.{Each, IsFirstWithout};
 ghost use Rattle.shared_systems.specs.Shared.{HasTask};
 ghost use Rattle.shared_systems.specs.SharedMemory.{shared_peak_of};
 ghost use Rattle.shared_systems.specs.SharedTraversal.{IsSharedTraversal};
-ghost use Rattle.peak_bounds.specs.EventSets.{EventSetValue};
-ghost use Rattle.peak_bounds.specs.Evidence.{use_count, set_tasks, Passes, IsEventSet, IsEvidence, IsObjection};
-ghost use Rattle.peak_bounds.specs.Judging.{AreUses};
-ghost use Rattle.peak_bounds.specs.Judged.{test_of, IsFormed, PassesAtMoment, FailsAtMoment};
+ghost use Rattle.peak_bounds.specs.Evidence.{use_count, Passes, IsEventSet, IsEvidence, IsObjection};
+ghost use Rattle.peak_bounds.specs.Judged.{test_of, IsFormed, IsCommon};
 
 use crate::NoMemory;
-use crate::evidence::{Blocker, BlockerTest, EventSet, Evidence, Objection};
+use crate::blockers::{Common, common_of, judge_part};
+use crate::chunks::judge_parts;
+use crate::evidence::{BlockerTest, EventSet, Evidence, Objection};
 use crate::laws::evidence_law;
-use crate::levels::{open_tasks_rise, reaches};
-use crate::lowered::{are_amounts, fit_sizes, lowered_of};
-use crate::marks::{done_at, waiting_at};
-use crate::needs::{inputs, need};
-use crate::use_table::{UseTable, uses_of};
+use crate::lowered::are_amounts;
+use crate::needs::{at_start, inputs, need};
+use crate::use_table::uses_of;
+use mp_outside::Gate;
 use shared_systems::SharedSystem;
 use std::alloc::Global;
+use std::thread::Threads;
 
 /// A test of a blocker that needs no search.
 #[derive(Clone, Copy)]
@@ -102,50 +103,23 @@ fn form_objection(system: &SharedSystem, set: &EventSet, count: usize) -> Option
     None
 }
 
-// The tasks of the set.
-fn tasks_of(alloc: Global, blockers: &[Blocker]) -> Result<Vec<u32>, NoMemory>
-    ensures { (set : EventSetValue) → set.blockers ≡ blockers.now → IfOk result (λ tasks. tasks.items ≡ set_tasks set) }
-{
-    let mut tasks = Vec::with_capacity(alloc, blockers.len())?;
-    for blocker in blockers {
-        tasks.push(blocker.task())?;
-    }
-    Ok(tasks)
-}
-
-// The first test of its moment that the blocker after i others fails, if it fails one.
-fn judge_blocker(
+// What is said against a set that is not well formed, or else what is the same for all its blockers.
+fn opened(
     alloc: Global,
     system: &SharedSystem,
-    uses: &UseTable,
     set: &EventSet,
-    tasks: &[u32],
-    i: usize,
     bound: u64,
-) -> Result<Option<BlockerTest>, NoMemory>
-    requires uses { AreUses system.now uses.now }
-    requires tasks { tasks.now ≡ set_tasks set.now }
-    requires formed { IsFormed system.now set.now bound }
-    requires i { i < length set.now.blockers }
-    ensures { IfOk result (λ found. MatchOption found
-        (PassesAtMoment system.now set.now bound (i + 1))
-        (λ test. FailsAtMoment system.now set.now bound test (i + 1))) }
+) -> Result<Result<Common, Objection>, NoMemory>
+    ensures { IfOk result (λ opened. MatchResult opened
+        (λ common. IsFormed system.now set.now bound × IsCommon system.now set.now common)
+        (IsObjection system.now (Evidence.Set set.now) bound)) }
 {
-    let blocker = &set.blockers()[i];
-    let lowered = lowered_of(alloc, uses.makers.len(), set.base(), blocker.amounts())?;
-    if !fit_sizes(system.items(), &lowered) {
-        return Ok(Some(BlockerTest::Sizes));
+    let uses = uses_of(alloc, system)?;
+    if let Some(objection) = form_objection(system, set, uses.makers.len()) {
+        return Ok(Err(objection));
     }
-    let task = blocker.task();
-    let done = done_at(alloc, system, uses, set.event(), tasks, task)?;
-    let waiting = waiting_at(alloc, system, uses, set.event(), tasks, task)?;
-    if !open_tasks_rise(system, uses, &done, &waiting, &lowered) {
-        return Ok(Some(BlockerTest::Open));
-    }
-    if !reaches(system, uses, &done, &lowered, task, bound) {
-        return Ok(Some(BlockerTest::Level));
-    }
-    Ok(None)
+    let common = common_of(alloc, system, set, bound, uses)?;
+    Ok(Ok(common))
 }
 
 // What is said against the set, if anything is.
@@ -159,18 +133,43 @@ fn judge_set(
         (IsEventSet system.now set.now bound)
         (IsObjection system.now (Evidence.Set set.now) bound)) }
 {
-    let uses = uses_of(alloc, system)?;
-    if let Some(objection) = form_objection(system, set, uses.makers.len()) {
-        return Ok(Some(objection));
+    match opened(alloc, system, set, bound)? {
+        Ok(common) => judge_part(alloc, system, set, bound, &common, 0, set.blockers().len()),
+        Err(objection) => Ok(Some(objection)),
     }
-    let tasks = tasks_of(alloc, set.blockers())?;
-    for i in 0..set.blockers().len() {
-        if let Some(test) = judge_blocker(alloc, system, &uses, set, &tasks, i, bound)? {
-            let place = i as u64 + 1;
-            return Ok(Some(Objection::Blocker { test, place }));
-        }
+}
+
+// What is said against the set, if anything is, by so many workers.
+fn judge_set_by<R: Threads + Sync, G: Gate>(
+    rt: &R,
+    alloc: Global,
+    system: &SharedSystem,
+    set: &EventSet,
+    bound: u64,
+    workers: u32,
+    gate: &G,
+) -> Result<Option<Objection>, NoMemory>
+    requires { (1 ≤ workers) × (workers ≤ most_workers) }
+    ensures { IfOk result (λ found. MatchOption found
+        (IsEventSet system.now set.now bound)
+        (IsObjection system.now (Evidence.Set set.now) bound)) }
+{
+    match opened(alloc, system, set, bound)? {
+        Ok(common) => judge_parts(rt, alloc, system, set, bound, &common, workers, gate),
+        Err(objection) => Ok(Some(objection)),
     }
-    Ok(None)
+}
+
+// What is said against what is there at the start, if anything is.
+fn judge_start(system: &SharedSystem, bound: u64) -> Option<Objection>
+    ensures { MatchOption result
+        (IsEvidence system.now Evidence.Start bound)
+        (IsObjection system.now Evidence.Start bound) }
+{
+    if at_start(system.items()) < bound {
+        return Some(Objection::Low);
+    }
+    None
 }
 
 // What is said against the need of a task, if anything is.
@@ -206,7 +205,37 @@ pub fn judge_evidence(
     evidence_law();
     system.keeps();
     match evidence {
+        Evidence::Start => Ok(judge_start(system, bound)),
         Evidence::Need(task) => Ok(judge_need(system, *task, bound)),
         Evidence::Set(set) => judge_set(alloc, system, set, bound),
+    }
+}
+
+/// The same, by so many workers: the blockers of a set are judged in as many chunks, each in a thread that calls the gate once, with the
+/// number of its chunk from 0. What is said is the same for every number of workers and every gate. Each worker takes memory linear in the
+/// tasks and the readers of all items.
+pub fn judge_evidence_by<R: Threads + Sync, G: Gate>(
+    rt: &R,
+    alloc: Global,
+    system: &SharedSystem,
+    evidence: &Evidence,
+    bound: u64,
+    workers: u32,
+    gate: &G,
+) -> Result<Option<Objection>, NoMemory>
+    requires workers { (1 ≤ workers) × (workers ≤ most_workers) }
+    ensures judged { IfOk result (λ found. MatchOption found
+        (IsEvidence system.now evidence.now bound)
+        (IsObjection system.now evidence.now bound)) }
+    ensures exact { IfOk result (λ found. IsNone found ↔ IsEvidence system.now evidence.now bound) }
+    ensures peaks { IfOk result (λ found. IsNone found →
+        (order : List ℕ) → IsSharedTraversal system.now order → bound ≤ shared_peak_of system.now order) }
+{
+    evidence_law();
+    system.keeps();
+    match evidence {
+        Evidence::Start => Ok(judge_start(system, bound)),
+        Evidence::Need(task) => Ok(judge_need(system, *task, bound)),
+        Evidence::Set(set) => judge_set_by(rt, alloc, system, set, bound, workers, gate),
     }
 }

@@ -7,7 +7,8 @@ ghost use Rattle.peak_bounds.specs.Moments.{Moment, IsMoment, is_done, is_waitin
 ghost use Rattle.peak_bounds.specs.Steps.{Starts, Step, AreSteps};
 ghost use Rattle.shared_systems.specs.Bounds.{IsSharedSystem};
 ghost use Rattle.peak_bounds.specs.declared.evidence.Evidence.{Evidence};
-ghost use Rattle.peak_bounds.specs.Evidence.{IsEvidence};
+ghost use Rattle.peak_bounds.specs.declared.evidence.Objection.{Objection};
+ghost use Rattle.peak_bounds.specs.Evidence.{IsEvidence, IsObjection};
 
 /// What is marked at a moment is so, and the peak is at least its level.
 pub fn moment_law()
@@ -36,4 +37,12 @@ pub fn evidence_law()
     ensures least { (system : SharedTaskSystem) (evidence : Evidence) (order : List ℕ) → IsSharedSystem system →
         IsSharedTraversal system order → IsEvidence system evidence (shared_peak_of system order) →
         IsLeastShared system (shared_peak_of system order) }
+{}
+
+/// To evidence that holds there is no objection, and to other evidence at most one: so two judges say the same.
+pub fn one_objection()
+    ensures none { (system : SharedTaskSystem) (evidence : Evidence) (bound : ℕ) (objection : Objection) →
+        IsEvidence system evidence bound → ¬ IsObjection system evidence bound objection }
+    ensures one { (system : SharedTaskSystem) (evidence : Evidence) (bound : ℕ) (one other : Objection) →
+        IsObjection system evidence bound one → IsObjection system evidence bound other → one ≡ other }
 {}

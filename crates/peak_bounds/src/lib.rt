@@ -4,6 +4,8 @@
 //! [`laws`].
 #![tactic(auto)]
 
+mod blockers;
+mod chunks;
 mod evidence;
 mod judging;
 pub mod laws;
@@ -17,7 +19,7 @@ mod use_table;
 mod uses;
 
 pub use evidence::{Amount, Blocker, BlockerTest, EventSet, Evidence, Objection};
-pub use judging::judge_evidence;
+pub use judging::{judge_evidence, judge_evidence_by};
 use std::alloc::AllocError;
 pub use step::Event;
 

@@ -1,6 +1,6 @@
 //! Lowered sizes, as they are told, and sums of them.
 
-ghost use Rattle.std.specs.Prelude.{◌≡◌, ◌+◌, ◌<◌, ◌≤◌, ◌^◌, ◌↔◌, ℕ, All, IfOk, IsTrue, length, map, Option};
+ghost use Rattle.std.specs.Prelude.{◌≡◌, ◌+◌, ◌<◌, ◌≤◌, ◌^◌, ◌↔◌, ℕ, [], All, IfOk, IsTrue, length, map, Option};
 ghost use Rattle.std.specs.List.{sum_by};
 ghost use Rattle.std.specs.List.Sorted.{IsStrictlyIncreasing};
 ghost use Rattle.peak_bounds.specs.Moments.{uses_for, uses_of, above_zero, FitSizes};
@@ -44,8 +44,8 @@ pub fn are_amounts(amounts: &[Amount], count: usize) -> bool
     are_each(amounts, count) && are_rising(amounts)
 }
 
-// Writes amounts at their places.
-fn put_amounts(sizes: &mut [i64], amounts: &[Amount])
+/// Writes amounts at their places.
+pub fn put_amounts(sizes: &mut [i64], amounts: &[Amount])
     requires { All (IsAmount (length sizes.old)) amounts.now }
     ensures { (k : ℕ) → k < length sizes.old → size_at sizes.new k ≡ amount_or (size_at sizes.old k) amounts.now (k + 1) }
 {
@@ -55,21 +55,26 @@ fn put_amounts(sizes: &mut [i64], amounts: &[Amount])
     }
 }
 
-/// The lowered sizes of so many uses.
-pub fn lowered_of(
-    alloc: Global,
-    count: usize,
-    base: &[Amount],
-    own: &[Amount],
-) -> Result<Vec<i64>, NoMemory>
-    requires base { All (IsAmount count) base.now }
-    requires own { All (IsAmount count) own.now }
-    ensures sizes { IfOk result (λ sizes. sizes.items ≡ lowered_by count base.now own.now) }
-    ensures small { IfOk result (λ sizes. AreSmall sizes.items) }
+/// Takes amounts back, so that the sizes are what they were.
+pub fn take_back(sizes: &mut [i64], amounts: &[Amount], base: &[i64])
+    requires within { All (IsAmount (length sizes.old)) amounts.now }
+    requires len { length base.now ≡ length sizes.old }
+    requires put { (k : ℕ) → k < length sizes.old → size_at sizes.old k ≡ amount_or (size_at base.now k) amounts.now (k + 1) }
+    ensures { sizes.new ≡ base.now }
+{
+    for i in 0..amounts.len() {
+        let place = amounts[i].place as usize - 1;
+        sizes[place] = base[place];
+    }
+}
+
+/// The lowered sizes that a set tells of so many uses.
+pub fn base_sizes(alloc: Global, count: usize, base: &[Amount]) -> Result<Vec<i64>, NoMemory>
+    requires { All (IsAmount count) base.now }
+    ensures { IfOk result (λ sizes. sizes.items ≡ lowered_by count base.now []) }
 {
     let mut sizes: Vec<i64> = vec![in alloc; 0; count]?;
     put_amounts(&mut sizes, base);
-    put_amounts(&mut sizes, own);
     Ok(sizes)
 }
 

@@ -1,13 +1,20 @@
 //! Evidence for lower bounds, and what is said against it.
 
+ghost use Rattle.std.specs.Prelude.{◌≤◌};
+ghost use Rattle.limits.specs.Limits.{most_workers};
+
+use mp_outside::{Gate, NoGate};
 use mp_system::GivenTask;
 use peak_bounds::{
     Amount, Blocker, BlockerTest, Event, EventSet, Evidence, Objection, judge_evidence,
+    judge_evidence_by,
 };
 use shared_systems::{GivenSharedItem, SharedRefusal, SharedSystem, shared_system_of_arrays};
 use std::alloc::Global;
 use std::rt::HostRuntime;
+use std::sync::atomic::{AtomicU32, Ordering};
 use std::test::Fail;
+use std::thread::Threads;
 
 fn task(extra: u64, share: u64) -> GivenTask {
     GivenTask {
@@ -95,6 +102,22 @@ fn leaves(
     Ok(judge_evidence(alloc, &tree(alloc)?, &evidence, bound)?)
 }
 
+// The same with these amounts for both, by so many workers.
+fn leaves_by<R: Threads + Sync, G: Gate>(
+    rt: &R,
+    alloc: Global,
+    base: &[Amount],
+    bound: u64,
+    workers: u32,
+    gate: &G,
+) -> Result<Option<Objection>, Fail>
+    requires { (1 ≤ workers) × (workers ≤ most_workers) }
+{
+    let evidence = pair(alloc, Event::Last, base, [1, 3], &OWN)?;
+    let system = tree(alloc)?;
+    Ok(judge_evidence_by(rt, alloc, &system, &evidence, bound, workers, gate)?)
+}
+
 // And against these two tasks with these amounts.
 fn tasks_of_tree(
     alloc: Global,
@@ -116,6 +139,12 @@ fn fan_leaves(alloc: Global, event: Event, bound: u64) -> Result<Option<Objectio
 fn third(alloc: Global, base: &[Amount]) -> Result<Option<Objection>, Fail> {
     let evidence = single(alloc, Event::First, base, 3)?;
     Ok(judge_evidence(alloc, &diamond(alloc)?, &evidence, 10)?)
+}
+
+// And against what is there at the start of a system without tasks, of which 7 is.
+fn start(alloc: Global, bound: u64) -> Result<Option<Objection>, Fail> {
+    let system = shared_system_of_arrays(alloc, &[], &[item(7, 0, 0)], &[])?;
+    Ok(judge_evidence(alloc, &system, &Evidence::Start, bound)?)
 }
 
 // And against the need of a task of the diamond.
@@ -257,5 +286,104 @@ fn a_task_reads_and_needs_so_much(rt: HostRuntime) -> Result<(), Fail> {
     assert_eq!(rt; need(alloc, 4, 8)?, Some(Objection::Low));
     assert_eq!(rt; need(alloc, 0, 0)?, Some(Objection::NoTask));
     assert_eq!(rt; need(alloc, 5, 0)?, Some(Objection::NoTask));
+    Ok(())
+}
+
+#[test]
+fn so_much_is_there_at_the_start(rt: HostRuntime) -> Result<(), Fail> {
+    let alloc = rt.alloc();
+    assert_eq!(rt; start(alloc, 7)?, None);
+    assert_eq!(rt; start(alloc, 8)?, Some(Objection::Low));
+    // What tasks make is not there yet.
+    let made = tree(alloc)?;
+    assert_eq!(rt; judge_evidence(alloc, &made, &Evidence::Start, 0)?, None);
+    assert_eq!(rt;
+        judge_evidence(alloc, &made, &Evidence::Start, 1)?,
+        Some(Objection::Low)
+    );
+    Ok(())
+}
+
+#[test]
+fn workers_say_the_same(rt: HostRuntime) -> Result<(), Fail> {
+    let alloc = rt.alloc();
+    for workers in [1, 2, 3, 4096] {
+        let base = [told(1, 1), told(2, 1)];
+        assert_eq!(rt; leaves_by(&rt, alloc, &base, 11, workers, &NoGate)?, None);
+        assert_eq!(rt;
+            leaves_by(&rt, alloc, &base, 12, workers, &NoGate)?,
+            failing(BlockerTest::Level, 1)
+        );
+        // The second has no amounts then.
+        assert_eq!(rt;
+            leaves_by(&rt, alloc, &[], 11, workers, &NoGate)?,
+            failing(BlockerTest::Level, 2)
+        );
+        assert_eq!(rt;
+            leaves_by(&rt, alloc, &[told(6, 1)], 11, workers, &NoGate)?,
+            Some(Objection::Base)
+        );
+    }
+    Ok(())
+}
+
+#[test]
+fn workers_judge_needs_and_the_start(rt: HostRuntime) -> Result<(), Fail> {
+    let alloc = rt.alloc();
+    let system = diamond(alloc)?;
+    let third = Evidence::Need(3);
+    assert_eq!(rt;
+        judge_evidence_by(&rt, alloc, &system, &third, 10, 4, &NoGate)?,
+        None
+    );
+    assert_eq!(rt;
+        judge_evidence_by(&rt, alloc, &system, &third, 11, 4, &NoGate)?,
+        Some(Objection::Low)
+    );
+    let start = Evidence::Start;
+    assert_eq!(rt;
+        judge_evidence_by(&rt, alloc, &system, &start, 0, 4, &NoGate)?,
+        None
+    );
+    assert_eq!(rt;
+        judge_evidence_by(&rt, alloc, &system, &start, 1, 4, &NoGate)?,
+        Some(Objection::Low)
+    );
+    Ok(())
+}
+
+// Counts how often chunks were entered, and sets a bit for each.
+#[derive(Drop)]
+struct Counts {
+    entered: AtomicU32,
+    numbers: AtomicU32,
+}
+
+impl Gate for Counts {
+    fn enter(&self, chunk: u32) {
+        self.entered.fetch_add(1, Ordering::SeqCst);
+        self.numbers
+            .fetch_or(1u32.wrapping_shl(chunk), Ordering::SeqCst);
+    }
+}
+
+#[test]
+fn each_chunk_is_entered_once(rt: HostRuntime) -> Result<(), Fail> {
+    for (workers, chunks) in [(1, 1), (2, 2), (4096, 2)] {
+        let gate = Counts {
+            entered: AtomicU32::new(0),
+            numbers: AtomicU32::new(0),
+        };
+        let base = [told(1, 1), told(2, 1)];
+        assert_eq!(rt;
+            leaves_by(&rt, rt.alloc(), &base, 11, workers, &gate)?,
+            None
+        );
+        assert_eq!(rt; gate.entered.load(Ordering::SeqCst), chunks);
+        assert_eq!(rt;
+            gate.numbers.load(Ordering::SeqCst),
+            1u32.wrapping_shl(chunks) - 1
+        );
+    }
     Ok(())
 }
