@@ -7,7 +7,7 @@ use Rattle.std.proofs.lemmas.List.{length_push, length-map, get_or_append_left, 
 use Rattle.std.proofs.lemmas.List.Elements.{All-nil, All-push}
 use Rattle.std.proofs.lemmas.List.Sums.{sum_by_push}
 use Rattle.std.proofs.lemmas.Bool.{and_parts, cases_lt, leb-true, ltb-true}
-use Rattle.limits.specs.Limits.{most_tasks, most_positions, most_total, most_uses}
+use Rattle.limits.specs.Limits.{most_tasks, most_positions, most_total}
 use Rattle.mp_text.specs.declared.layout.Layout.TheVariants.{Commented}
 use Rattle.mp_text.specs.Text.{Row, signed_of}
 use Rattle.mp_text.specs.Ahead.{rows_of_bytes}
@@ -21,13 +21,15 @@ use Rattle.plan_files.specs.declared.kind.PlanKind.TheVariants as kinds
 use Rattle.plan_files.specs.PlanFile.{is_number_up_to, is_bound, bound_of, task_on, claim_on, claim_tests, order_tests, peak_tests}
 use Rattle.plan_files.proofs.FormLemmas.{up_to, hold, order-test, claim-test, last_position_is}
 use Rattle.peak_bounds.specs.declared.evidence.Amount.{Amount}
+use Rattle.peak_bounds.specs.declared.evidence.Evidence.TheVariants.{Start, Need}
 use Rattle.peak_bounds.specs.EventSets.{BlockerValue}
 use Rattle.peak_bounds.specs.Evidence.{IsAmount, AreAmounts, place_of}
 use Rattle.peak_bounds.proofs.Told.{no_amount, place_at}
 use Rattle.bounded_plans.specs.BoundedPlan.{BoundedPlanValue, own_count, IsBlockerWithin, IsWithin, IsBoundedPlan}
+use Rattle.bounded_plans.specs.declared.evidence.BoundEvidence.TheVariants.{Sums}
 use Rattle.bounded_plan_files.specs.BoundedPlanFile.{Stated, stated, bounded_plan_format, staged_tests, is_ended, sort_on, sort_tests, amount_on}
 use Rattle.bounded_plan_files.specs.BoundedPlanFile.{last_place, amount_tests, blocker_tests, blocker_task, own_stated, blockers_at, with_blocker}
-use Rattle.bounded_plan_files.specs.BoundedPlanFile.{tests_after_amounts, evidence_stated, ReadsBoundedPlan}
+use Rattle.bounded_plan_files.specs.BoundedPlanFile.{tests_after_amounts, need_stated, evidence_stated, ReadsBoundedPlan}
 use Rattle.bounded_plan_files.specs.Reader.{staged_next, sort_next, with_task, peak_next, with_claim, with_base_amount, with_own_amount}
 use Rattle.bounded_plan_files.specs.Reader.{set_ended, after_amounts}
 use Rattle.bounded_plan_files.specs.declared.sort.Sort.{Sort}
@@ -83,7 +85,7 @@ no_amounts = record { each = All-nil (IsAmount most_number); rising = λ k lt. a
 -- ---- a blocker's line
 
 blocker-test : (uses : ℕ) (row : Row) → first_failure (blocker_tests uses row) ≡ None
-    → (blocker_task row ≤ most_number) × (uses + own_stated row ≤ most_uses)
+    → (blocker_task row ≤ most_number) × (uses + own_stated row ≤ most_positions)
 blocker-test uses row passed =
     let both = hold _ _ _ _ _ _ passed in
     let all = and_parts (is_number_up_to most_number (token_at 1 row)) _ both.0 in
@@ -110,7 +112,7 @@ record IsInBase (s : Stated) : Type 0 where
   few : s.left ≤ most_tasks
   none : s.blockers ≡ []
   uses : s.uses ≡ s.count
-  most : s.count ≤ most_uses
+  most : s.count ≤ most_positions
   within : length s.base ≤ s.count
   base : AreAmounts most_number s.base
 
@@ -123,7 +125,7 @@ record IsInOwn (s : Stated) : Type 0 where
   own : AreAmounts most_number s.own
   within : length s.own ≤ s.count
   told : length s.base + sum_by own_count s.blockers + s.count ≤ s.uses
-  most : s.uses ≤ most_uses
+  most : s.uses ≤ most_positions
 
 -- after all amounts, with the blockers so far
 record IsClosed (s : Stated) (blockers : List BlockerValue) : Type 0 where
@@ -132,7 +134,7 @@ record IsClosed (s : Stated) (blockers : List BlockerValue) : Type 0 where
   base : AreAmounts most_number s.base
   each : All IsBlockerWithin blockers
   told : length s.base + sum_by own_count blockers ≤ s.uses
-  most : s.uses ≤ most_uses
+  most : s.uses ≤ most_positions
 
 record AreClaims (count : ℕ) (claims : List Claim) : Type 0 where
   within : length claims ≤ count
@@ -349,6 +351,14 @@ own-passed s row stage so at = go (ltb (length s.own) s.count) refl where
   go false e passed =
       after-passed s row so (subst (λ (st : Stage). IsClosed s (blockers_at st s)) (sym stage) (closed-own s at)) passed
 
+-- ---- the need of a task
+
+need-within : (task : ℕ) → task ≤ most_number → IsWithin (Sums (need_stated task))
+need-within task few = go (eqb task 0) refl where
+  go : (b : Bool) → eqb task 0 ≡ b → IsWithin (Sums (cond b Start (Need task)))
+  go true e = tt
+  go false e = (positive task e, few)
+
 -- ---- all lines
 
 line-passed : (stage : Stage) (s : Stated) (row : Row) → s.stage ≡ stage → HasHead s → At stage s
@@ -381,7 +391,8 @@ line-passed stages.Base s row e so at passed = base-passed s row e so at passed
 line-passed stages.Own s row e so at passed = own-passed s row e so at passed
 line-passed stages.End s row e so at passed = (
   so,
-  subst (λ (sort : Sort). IsWithin (evidence_stated sort (record s { stage = stages.Ended }))) (sym at.0) at.1,
+  subst (λ (sort : Sort). IsWithin (evidence_stated sort (record s { stage = stages.Ended }))) (sym at.0)
+      (need-within s.task at.1),
 )
 line-passed stages.Ended s row e so at passed = absurd cc
 

@@ -3,3 +3,5 @@ pub mod FormLemmas
 pub mod PrintingLemmas
 pub mod PrintedLemmas
 pub mod PrintedWhole
+pub mod LengthLemmas
+pub mod JsonLemmas

@@ -9,7 +9,7 @@ use Rattle.std.proofs.lemmas.Bool.{le-leb, lt-ltb, le-ltb}
 use Rattle.std.proofs.lemmas.List.{length-map, get_or_append_left, get_or_at}
 use Rattle.std.proofs.lemmas.List.Elements.{All-head, All-tail}
 use Rattle.std.proofs.lemmas.List.Sums.{sum_by-cons}
-use Rattle.limits.specs.Limits.{most_total, most_uses}
+use Rattle.limits.specs.Limits.{most_positions, most_total}
 use Rattle.mp_text.specs.Text.{Row, number_of, signed_of}
 use Rattle.mp_text.specs.Grammar.{first_failure}
 use Rattle.mp_text.specs.Report.{numbered_from}
@@ -200,7 +200,7 @@ after_blockers s [] = set_ended s
 after_blockers s (b ∷ bs) = after_blockers (put_own s b b.amounts) bs
 
 pub blockers-lead : AreLaws → (s : Stated) (bs : List BlockerValue) → IsFull s → s.left ≡ length bs → All IsBlockerWithin bs
-    → s.uses + sum_by own_count bs ≤ most_uses → LeadsOn s (flat_map blocker_lines bs ++ end_line ∷ []) (after_blockers s bs)
+    → s.uses + sum_by own_count bs ≤ most_positions → LeadsOn s (flat_map blocker_lines bs ++ end_line ∷ []) (after_blockers s bs)
 unfolding Leads after_blockers
 blockers-lead laws s [] full left within few n =
     let row : Row = record { number = n; tokens = end_line } in
@@ -211,7 +211,7 @@ blockers-lead laws s (b ∷ bs) full left within few n =
     let sum = sum_by-cons own_count b bs in
     let task : number_of (decimal b.task) ≡ Some b.task = laws.value b.task (let le = here.task in omega arith) in
     let count : number_of (decimal (length b.amounts)) ≡ Some (length b.amounts) = laws.value (length b.amounts) (omega arith) in
-    let fits : s.uses + length b.amounts ≤ most_uses = omega arith in
+    let fits : s.uses + length b.amounts ≤ most_positions = omega arith in
     let more = blockers-lead laws (put_own s b b.amounts) bs (own-full s b) (omega arith)
     (All-tail IsBlockerWithin b bs within) (omega arith) in
     let lines = amounts-lead laws (put_own s b) (length b.amounts) [] b.amounts (flat_map blocker_lines bs ++ end_line ∷ [])
@@ -225,7 +225,7 @@ blockers-lead laws s (b ∷ bs) full left within few n =
       task,
       count,
       le-leb b.task most_number here.task,
-      le-leb (s.uses + length b.amounts) most_uses fits,
+      le-leb (s.uses + length b.amounts) most_positions fits,
     ) (refl, joined)
 
 -- ---- a base, and the blockers after it
@@ -248,11 +248,11 @@ base-leads laws s sort set is n =
     let few = is.few_amounts in
     let at : Stated = at_section s sort (length set.blockers) in
     let count : number_of (decimal (length set.base)) ≡ Some (length set.base) = laws.value (length set.base) (omega arith) in
-    let fits : length set.base ≤ most_uses = omega arith in
+    let fits : length set.base ≤ most_positions = omega arith in
     let end : Stated = after_blockers (at_base at (length set.base) set.base) set.blockers in
     let more = blockers-lead laws (at_base at (length set.base) set.base) set.blockers (base-full at set.base) refl is.blockers few in
     let lines = amounts-lead laws (at_base at (length set.base)) (length set.base) [] set.base
     (flat_map blocker_lines set.blockers ++ end_line ∷ []) end (base-takes at (length set.base)) is.base (omega arith) more (n + 1) in
     let joined = subst (λ (ls : List (List (List ℕ))). Leads (at_base at (length set.base) []) (numbered_from (n + 1) ls) end)
     (sym (append_assoc (map amount_line set.base) (flat_map blocker_lines set.blockers) (end_line ∷ []))) lines in
-    rw (count, le-leb (length set.base) most_uses fits) (refl, joined)
+    rw (count, le-leb (length set.base) most_positions fits) (refl, joined)

@@ -1,15 +1,15 @@
 -- A printed plan of version 3 is read as it was: all its lines.
-use Rattle.std.proofs.Common.{◌≡◌, ℕ, ◌+◌, ◌≤◌, true, false, ltb, List, [], ◌∷◌, ◌++◌, length, map, refl}
+use Rattle.std.proofs.Common.{◌≡◌, ℕ, ◌+◌, ◌≤◌, true, false, eqb, ltb, List, [], ◌∷◌, ◌++◌, length, map, refl}
 use Rattle.std.proofs.Common.{sym, ap, subst, ◌∙◌, arith, Some, None, append_assoc, append-nil}
 use Rattle.std.specs.Bool.{IsTrue}
 use Rattle.std.specs.Fmt.{decimal, signed_decimal}
 use Rattle.std.specs.Prelude.{codes}
 use Rattle.std.specs.List.{All, list_all, flat_map, sum_by}
-use Rattle.std.proofs.lemmas.Bool.{and_from, le-leb, le-ltb}
+use Rattle.std.proofs.lemmas.Bool.{and_from, le-leb, le-ltb, ne_eqb}
 use Rattle.std.proofs.lemmas.List.Elements.{All-head, All-tail, All-nil, All-cons}
 use Rattle.std.proofs.lemmas.List.Sums.{sum_by-cons}
 use Rattle.std.proofs.lemmas.List.Folds.{list_all-append}
-use Rattle.limits.specs.Limits.{most_tasks, most_positions, most_total, most_uses}
+use Rattle.limits.specs.Limits.{most_tasks, most_positions, most_total}
 use Rattle.mp_text.specs.declared.layout.Layout.TheVariants.{Commented}
 use Rattle.mp_text.specs.Text.{number_of}
 use Rattle.mp_text.specs.Ahead.{rows_of_bytes, past_of_bytes}
@@ -28,7 +28,7 @@ use Rattle.plan_files.proofs.PrintedLemmas.{bound-fits}
 use Rattle.peak_bounds.specs.declared.step.Event.{Event}
 use Rattle.peak_bounds.specs.declared.step.Event.TheVariants as events
 use Rattle.peak_bounds.specs.declared.evidence.Amount.{Amount}
-use Rattle.peak_bounds.specs.declared.evidence.Evidence.TheVariants.{Need, Set}
+use Rattle.peak_bounds.specs.declared.evidence.Evidence.TheVariants.{Start, Need, Set}
 use Rattle.peak_bounds.specs.EventSets.{BlockerValue, EventSetValue}
 use Rattle.peak_bounds.specs.Evidence.{IsAmount}
 use Rattle.bounded_plans.specs.BoundedPlan.{BoundedPlanValue, own_count, IsBlockerWithin, IsSetWithin, IsWithin, IsBoundedPlan}
@@ -56,6 +56,7 @@ done_set s event set =
     after_blockers (at_base (at_section s (sort_of event) (length set.blockers)) (length set.base) set.base) set.blockers
 
 abbrev done : Stated → BoundEvidence → Stated
+done s (Sums Start) = record s { stage = stages.Ended; sort = sorts.Need; task = 0 }
 done s (Sums (Need task)) = record s { stage = stages.Ended; sort = sorts.Need; task = task }
 done s (Sums (Set set)) = done_set s set.event set
 done s (Claims claims) = record s { stage = stages.Ended; sort = sorts.Claims; count = length claims; claims = claims }
@@ -79,9 +80,12 @@ set-leads laws s bound events.Last set is n =
 evidence-leads : AreLaws → (s : Stated) (bound : ℕ) (evidence : BoundEvidence) → IsWithin evidence
     → LeadsOn (at_bound s bound) (evidence_lines evidence ++ end_line ∷ []) (done (at_bound s bound) evidence)
 unfolding Leads after_word sort_named
+evidence-leads laws s bound (Sums Start) is n =
+    let number : number_of (decimal 0) ≡ Some 0 = laws.value 0 (omega arith) in
+    rw number (refl, (refl, refl))
 evidence-leads laws s bound (Sums (Need task)) is n =
     let number : number_of (decimal task) ≡ Some task = laws.value task (omega arith) in
-    rw (number, le-leb task most_number is) (refl, (refl, refl))
+    rw (number, le-leb task most_number is.1) (refl, (refl, refl))
 evidence-leads laws s bound (Sums (Set set)) is n = set-leads laws s bound set.event set is n
 evidence-leads laws s bound (Claims claims) is n =
     let few = is.few in
@@ -177,16 +181,21 @@ set-stated : (event : Event) (s t : Stated) (bs : List BlockerValue) → s.sort 
 set-stated events.First s t bs sort is = rw (is.sort ∙ sort, is.order, is.peak, is.bound, is.base, is.blockers_are) refl
 set-stated events.Last s t bs sort is = rw (is.sort ∙ sort, is.order, is.peak, is.bound, is.base, is.blockers_are) refl
 
-done-stated : (s : Stated) (evidence : BoundEvidence) → s.blockers ≡ [] → plan_stated (done s evidence) ≡ of_parts s evidence
-done-stated s (Sums (Need task)) none = refl
-done-stated s (Sums (Set set)) none =
+done-stated : (s : Stated) (evidence : BoundEvidence) → IsWithin evidence → s.blockers ≡ []
+    → plan_stated (done s evidence) ≡ of_parts s evidence
+done-stated s (Sums Start) is none = refl
+done-stated s (Sums (Need task)) is none =
+    let some : eqb task 0 ≡ false = ne_eqb task 0 (λ (z : task ≡ 0). omega (arith, is.0, z)) in
+    rw some refl
+done-stated s (Sums (Set set)) is none =
     let at : Stated = at_base (at_section s (sort_of set.event) (length set.blockers)) (length set.base) set.base in
     set-stated set.event at (done_set s set.event set) (s.blockers ++ set.blockers) refl (after-is at set.blockers)
     ∙ ap (λ (before : List BlockerValue).
     of_parts s (Sums (Set (record { event = set.event; base = set.base; blockers = before ++ set.blockers })))) none
-done-stated s (Claims claims) none = refl
+done-stated s (Claims claims) is none = refl
 
 done-ended : (s : Stated) (evidence : BoundEvidence) (past : ℕ) → first_failure (end_tests_after (done s evidence) past) ≡ None
+done-ended s (Sums Start) past = refl
 done-ended s (Sums (Need task)) past = refl
 done-ended s (Sums (Set set)) past =
     let at : Stated = at_base (at_section s (sort_of set.event) (length set.blockers)) (length set.base) set.base in
@@ -202,9 +211,9 @@ dir-token Backward = refl
 
 -- no blocker has more amounts than all have together
 abbrev HasFewAmounts : BlockerValue → Type 0
-HasFewAmounts b = length b.amounts ≤ most_uses
+HasFewAmounts b = length b.amounts ≤ most_positions
 
-each-few : (bs : List BlockerValue) → sum_by own_count bs ≤ most_uses → All HasFewAmounts bs
+each-few : (bs : List BlockerValue) → sum_by own_count bs ≤ most_positions → All HasFewAmounts bs
 each-few [] few = All-nil HasFewAmounts
 each-few (b ∷ bs) few =
     let sum = sum_by-cons own_count b bs in
@@ -266,6 +275,7 @@ module _ (laws : AreLaws) where
   event-counted events.Last n few = section_counted laws (codes "last") n refl refl (omega arith)
 
   evidence-counted : (evidence : BoundEvidence) → IsWithin evidence → list_all (is_counted Commented) (evidence_lines evidence) ≡ true
+  evidence-counted (Sums Start) is = and_from _ _ (section_counted laws (codes "need") 0 refl refl (omega arith)) refl
   evidence-counted (Sums (Need task)) is = and_from _ _ (section_counted laws (codes "need") task refl refl (omega arith)) refl
   evidence-counted (Sums (Set set)) is =
       let few = is.few_amounts in
@@ -309,5 +319,5 @@ bounded_plan_text-reads laws plan is =
         end = subst (λ (s : Stated). first_failure (end_tests_after s (past_of_bytes text)) ≡ None)
             (sym stated_is) (done-ended begun_at plan.evidence (past_of_bytes text));
       };
-      stated = sym (ap plan_stated stated_is ∙ done-stated begun_at plan.evidence refl);
+      stated = sym (ap plan_stated stated_is ∙ done-stated begun_at plan.evidence is.evidence refl);
     }

@@ -3,7 +3,7 @@
 use Rattle.std.specs.Prelude.{◌≡◌, ◌==◌, ℕ, suc, zero, ◌+◌, ◌-◌, Bool, true, false, ◌&&◌, nat_lt, nat_le, is_some, unwrap_or, pos}
 use Rattle.std.specs.Prelude.{Option, Some, None, List, [], ◌∷◌, ◌++◌, length, map, take, drop, codes, if◌then◌else◌, slice_index_or, find}
 use Rattle.std.specs.Str.{bytes_eq}
-use Rattle.limits.specs.Limits.{most_tasks, most_total, most_uses}
+use Rattle.limits.specs.Limits.{most_tasks, most_positions, most_total}
 use Rattle.limits.specs.declared.name.LimitName.TheVariants as limits
 use Rattle.mp_text.specs.declared.layout.Layout.TheVariants.{Commented}
 use Rattle.mp_text.specs.declared.refusals.Refusal.{Refusal}
@@ -23,6 +23,7 @@ use Rattle.plan_files.specs.PlanFile.{task_on, order_tests, claim_on, claim_test
 use Rattle.peak_bounds.specs.declared.step.Event.{Event}
 use Rattle.peak_bounds.specs.declared.step.Event.TheVariants as events
 use Rattle.peak_bounds.specs.declared.evidence.Amount.{Amount}
+use Rattle.peak_bounds.specs.declared.evidence.Evidence.{Evidence}
 use Rattle.peak_bounds.specs.declared.evidence.Evidence.TheVariants as evidence
 use Rattle.peak_bounds.specs.EventSets.{BlockerValue, EventSetValue}
 use Rattle.bounded_plans.specs.BoundedPlan.{BoundedPlanValue}
@@ -68,7 +69,7 @@ sort_named tokens = find (λ sort. is_some (after_word (sort_word sort) tokens))
 abbrev pub sort_on : Row → Sort
 sort_on row = unwrap_or (sort_named row.tokens) sorts.Need
 
--- the number behind the word: a task, or how many blockers or claims there are
+-- the number behind the word: a task, or 0 for none; or how many blockers or claims there are
 abbrev pub sort_tests : Sort → Row → List (Test PlanKind)
 sort_tests sorts.Need row =
     section_tests (codes "need") kinds.Section kinds.Number row
@@ -83,7 +84,7 @@ evidence_tests row = sort_tests (sort_on row) row
 -- ---- `base K` and `blocker T D`, each with lines of amounts
 
 abbrev pub base_tests : Row → List (Test PlanKind)
-base_tests row = count_tests (codes "base") kinds.Section kinds.Number most_uses limits.Uses row
+base_tests row = count_tests (codes "base") kinds.Section kinds.Number most_positions limits.Positions row
 
 -- a blocker's task, and how many amounts of its own it has
 abbrev pub blocker_task : Row → ℕ
@@ -97,7 +98,7 @@ abbrev pub blocker_tests : ℕ → Row → List (Test PlanKind)
 blocker_tests uses row =
     test ((length row.tokens == 3) && bytes_eq (token_at 0 row) (codes "blocker")) (fault kinds.Section row)
     ∷ test (is_number_up_to most_number (token_at 1 row) && is_some (number_of (token_at 2 row))) (fault kinds.Number row)
-    ∷ test (nat_le (uses + own_stated row) most_uses) (refusals.Limit limits.Uses)
+    ∷ test (nat_le (uses + own_stated row) most_positions) (refusals.Limit limits.Positions)
     ∷ []
 
 -- ---- a line of an amount: `place amount`
@@ -272,8 +273,12 @@ bounded_plan_format = record {
 abbrev pub set_stated : Event → Stated → EventSetValue
 set_stated event s = record { event = event; base = s.base; blockers = s.blockers }
 
+-- what `need T` says: the need of a task; task 0 is no task, and then what is there before any task has run
+abbrev pub need_stated : ℕ → Evidence
+need_stated task = if task == 0 then evidence.Start else evidence.Need task
+
 abbrev pub evidence_stated : Sort → Stated → BoundEvidence
-evidence_stated sorts.Need s = Sums (evidence.Need s.task)
+evidence_stated sorts.Need s = Sums (need_stated s.task)
 evidence_stated sorts.First s = Sums (evidence.Set (set_stated events.First s))
 evidence_stated sorts.Last s = Sums (evidence.Set (set_stated events.Last s))
 evidence_stated sorts.Claims s = Claims s.claims

@@ -1,4 +1,6 @@
 pub mod BoundedPlanFile
+pub mod Json
+pub mod JsonValues
 pub mod Printed
 pub mod Reader
 pub mod Samples

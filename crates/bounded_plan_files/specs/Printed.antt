@@ -8,7 +8,7 @@ use Rattle.plan_files.specs.Printed.{task_lines, claim_lines}
 use Rattle.peak_bounds.specs.declared.step.Event.{Event}
 use Rattle.peak_bounds.specs.declared.step.Event.TheVariants.{First, Last}
 use Rattle.peak_bounds.specs.declared.evidence.Amount.{Amount}
-use Rattle.peak_bounds.specs.declared.evidence.Evidence.TheVariants.{Need, Set}
+use Rattle.peak_bounds.specs.declared.evidence.Evidence.TheVariants.{Start, Need, Set}
 use Rattle.peak_bounds.specs.EventSets.{BlockerValue, EventSetValue}
 use Rattle.bounded_plans.specs.BoundedPlan.{BoundedPlanValue}
 use Rattle.bounded_plans.specs.declared.evidence.BoundEvidence.{BoundEvidence}
@@ -34,7 +34,9 @@ set_lines set =
     ∷ section_line (codes "base") (length set.base)
     ∷ (map amount_line set.base ++ flat_map blocker_lines set.blockers)
 
+-- what is there before any task has run is told as the need of task 0, which is no task
 abbrev pub evidence_lines : BoundEvidence → List (List (List ℕ))
+evidence_lines (Sums Start) = section_line (codes "need") 0 ∷ []
 evidence_lines (Sums (Need task)) = section_line (codes "need") task ∷ []
 evidence_lines (Sums (Set set)) = set_lines set
 evidence_lines (Claims claims) = claim_lines claims

@@ -2,7 +2,7 @@
 -- Worked examples: the plan of a tree of five nodes with a set of two blockers as its evidence, and files that are refused.
 use Rattle.std.specs.Prelude.{◌≡◌, ℕ, List, [], ◌∷◌, ◌++◌, map, Option, Some, None, codes, refl}
 use Rattle.std.specs.Fmt.{decimal, digits}
-use Rattle.limits.specs.Limits.{most_uses}
+use Rattle.limits.specs.Limits.{most_positions}
 use Rattle.limits.specs.declared.name.LimitName.TheVariants as limits
 use Rattle.mp_text.specs.declared.layout.Layout.TheVariants.{Commented}
 use Rattle.mp_text.specs.declared.refusals.Refusal.{Refusal}
@@ -15,11 +15,12 @@ use Rattle.plan_files.specs.PlanFile.{dir_named}
 use Rattle.plan_files.specs.declared.kind.PlanKind.{PlanKind}
 use Rattle.plan_files.specs.declared.kind.PlanKind.TheVariants as kinds
 use Rattle.peak_bounds.specs.Samples.{leaves}
-use Rattle.peak_bounds.specs.declared.evidence.Evidence.TheVariants.{Need, Set}
+use Rattle.peak_bounds.specs.declared.evidence.Evidence.TheVariants.{Start, Need, Set}
 use Rattle.bounded_plans.specs.BoundedPlan.{BoundedPlanValue}
 use Rattle.bounded_plans.specs.declared.evidence.BoundEvidence.TheVariants.{Sums}
 use Rattle.bounded_plan_files.specs.BoundedPlanFile.{sort_named, stated, plan_stated, bounded_plan_format}
 use Rattle.bounded_plan_files.specs.Printed.{bounded_plan_text, bound_text}
+use Rattle.bounded_plan_files.specs.Json.{bounded_json_of}
 
 -- one of the leaves starts last, and then the memory is 11; the task that reads most needs 10
 abbrev pub five : BoundedPlanValue
@@ -37,6 +38,16 @@ pub printed_need : bound_text 10 (Sums (Need 5)) ≡ codes "bound 10\nneed 5\nen
 unfolding digits
 printed_need = refl
 
+pub printed_start : bound_text 0 (Sums Start) ≡ codes "bound 0\nneed 0\nend\n"
+unfolding digits
+printed_start = refl
+
+pub json : bounded_json_of five
+    ≡ codes "{\"bound\":11,\"evidence\":{\"last\":{\"base\":[[1,1],[2,1]],\"blockers\":[[1,[[1,0],[2,0],[3,1],[4,1]]],[3,[]]]}},"
+    ++ codes "\"order\":[1,3,2,4,5],\"peak\":11}"
+unfolding digits
+json = refl
+
 -- ---- reading
 
 pub stated_plan : plan_stated (stated (rows_of_bytes Commented (
@@ -45,15 +56,21 @@ pub stated_plan : plan_stated (stated (rows_of_bytes Commented (
 unfolding lines_of tokens_of number_of number_from signed_of rows_from after_word sort_named stated
 stated_plan = refl
 
+-- a file with this after the peak
+abbrev pub bounded : List ℕ → List ℕ
+bounded rest = codes "plan 3\norder 0\npeak 0\n" ++ rest
+
+-- a plan of no tasks: its bound is what is there at the start
+pub stated_start : plan_stated (stated (rows_of_bytes Commented (bounded (codes "bound 7\nneed 0\nend\n"))))
+    ≡ record { order = []; peak = 0; bound = 7; evidence = Sums Start }
+unfolding lines_of tokens_of number_of number_from rows_from after_word sort_named stated
+stated_start = refl
+
 -- the first test of a file's lines and of its end that fails, if one does
 abbrev pub refusal_of : List ℕ → Option (Refusal PlanKind)
 refusal_of bytes =
     let rows = rows_of_bytes Commented bytes in
     first_failure (tests_of_all bounded_plan_format.line_tests [] rows ++ bounded_plan_format.end_tests rows (past_of_bytes bytes))
-
--- a file with this after the peak
-abbrev pub bounded : List ℕ → List ℕ
-bounded rest = codes "plan 3\norder 0\npeak 0\n" ++ rest
 
 -- files that are read; another version; no evidence; no end; places that do not rise; a blocker too few and one too many; a claim of three
 -- tokens; amounts past the limit
@@ -73,9 +90,9 @@ pub refusals_of : map refusal_of (
     ∷ bounded (codes "bound 0\nlast 1\nbase 0\nend\n")
     ∷ bounded (codes "bound 0\nlast 0\nbase 0\nblocker 1 0\n")
     ∷ bounded (codes "bound 0\nclaims 1\n3 R 2\n")
-    ∷ (bounded (codes "bound 0\nlast 1\nbase 1\n1 1\nblocker 1 ") ++ decimal most_uses ++ codes "\n")
+    ∷ (bounded (codes "bound 0\nlast 1\nbase 1\n1 1\nblocker 1 ") ++ decimal most_positions ++ codes "\n")
     ∷ []) ≡ Some (fault_at 1 kinds.Header) ∷ Some (fault_at 5 kinds.Section) ∷ Some (fault_at 6 kinds.NoEnd)
     ∷ Some (fault_at 8 kinds.Amount) ∷ Some (fault_at 7 kinds.Section) ∷ Some (fault_at 7 kinds.NoEnd)
-    ∷ Some (fault_at 6 kinds.Claim) ∷ Some (refusals.Limit limits.Uses) ∷ []
+    ∷ Some (fault_at 6 kinds.Claim) ∷ Some (refusals.Limit limits.Positions) ∷ []
 unfolding digits lines_of tokens_of number_of number_from signed_of rows_from after_word sort_named dir_named stated
 refusals_of = refl

@@ -1,6 +1,7 @@
 //! Laws of plan files of version 3: what holds of each, without a call.
 
-ghost use Rattle.std.specs.Prelude.{◌≡◌, ◌⊎◌, ℕ, List};
+ghost use Rattle.std.specs.Prelude.{◌≡◌, ◌⊎◌, ◌≤◌, ℕ, List, length};
+ghost use Rattle.limits.specs.Limits.{most_bytes};
 ghost use Rattle.mp_text.specs.declared.refusals.Refusal.{Refusal};
 ghost use Rattle.plan_files.specs.declared.kind.PlanKind.{PlanKind};
 ghost use Rattle.bounded_plans.specs.BoundedPlan.{BoundedPlanValue, IsBoundedPlan};
@@ -37,3 +38,8 @@ pub fn printed_plan()
     text_laws::printed_number();
     text_laws::printed_file();
 }
+
+/// The text of a plan is within the limit of bytes, so that a file of it can be read whole.
+pub fn printed_length()
+    ensures { (plan : BoundedPlanValue) → IsBoundedPlan plan → length (bounded_plan_text plan) ≤ most_bytes }
+{}

@@ -1,8 +1,10 @@
-//! Plan files of version 3, which have a bound and evidence for it: their reader and their printers.
+//! Plan files of version 3, which have a bound and evidence for it: their reader and their printers; and such plans as JSON.
 //!
-//! The definitions stand in specs/: `BoundedPlanFile`, the tests of each line and what a file states; `Printed`, the text of a plan.
+//! The definitions stand in specs/: `BoundedPlanFile`, the tests of each line and what a file states; `Printed`, the text of a plan; `Json`,
+//! its JSON.
 #![tactic(auto)]
 
+mod json_text;
 pub mod laws;
 mod lines;
 mod printing;
@@ -10,6 +12,7 @@ mod reader;
 mod sort;
 mod stage;
 
+pub use json_text::bounded_plan_json;
 pub use printing::{print_bound, print_bounded_plan};
 pub use reader::read_bounded_plan;
 use std::alloc::AllocError;

@@ -1,7 +1,7 @@
 //! One function for each kind of line that only version 3 has: its tests in the order of the format's table.
 
 ghost use Rattle.std.specs.Prelude.{◌≡◌, ◌≤◌, ◌+◌, ◌==◌, [], ◌∷◌, length, MatchOption, IfOk, false, codes};
-ghost use Rattle.limits.specs.Limits.{most_tasks, most_positions, most_uses};
+ghost use Rattle.limits.specs.Limits.{most_tasks, most_positions};
 ghost use Rattle.mp_text.specs.Text.{tokens_of};
 ghost use Rattle.mp_text.specs.Ahead.{row};
 ghost use Rattle.mp_text.specs.Reading.{Gives, tested};
@@ -12,7 +12,7 @@ ghost use Rattle.bounded_plan_files.specs.BoundedPlanFile.{own_stated, amount_te
 ghost use Rattle.bounded_plan_files.specs.declared.sort.Sort.TheVariants as sorts;
 
 use file_frame::{after_word, count_on, number_on};
-use limits::{LimitName, MOST_TASKS, MOST_TOTAL, MOST_USES};
+use limits::{LimitName, MOST_POSITIONS, MOST_TASKS, MOST_TOTAL};
 use mp_text::{Line, Refusal, fault, number, tokens};
 use peak_bounds::Amount;
 use plan_files::{MOST_NUMBER, PlanKind, bound_of as amount_of, number_up_to};
@@ -38,7 +38,7 @@ pub fn bound_on(line: Line<'_>) -> Result<u64, Refusal<PlanKind>>
     Ok(bound)
 }
 
-/// `need T`: the task.
+/// `need T`: the task, or 0 for none.
 pub fn need_on(line: Line<'_>) -> Result<u32, Refusal<PlanKind>>
     ensures { let r = row line.entry.number line.entry.text.now in
         Gives (tested (sort_tests sorts.Need r) (stated_on (codes "need") r)) result }
@@ -86,15 +86,15 @@ pub fn last_on(line: Line<'_>) -> Result<u64, Refusal<PlanKind>>
 pub fn base_on(line: Line<'_>) -> Result<u64, Refusal<PlanKind>>
     ensures judged { let r = row line.entry.number line.entry.text.now in
         Gives (tested (base_tests r) (stated_on (codes "base") r)) result }
-    ensures few { IfOk result (λ n. n ≤ most_uses) }
+    ensures few { IfOk result (λ n. n ≤ most_positions) }
 {
     count_on(
         line,
         b"base",
         PlanKind::Section,
         PlanKind::Number,
-        MOST_USES,
-        LimitName::Uses,
+        MOST_POSITIONS,
+        LimitName::Positions,
     )
 }
 
@@ -136,10 +136,10 @@ pub struct BlockerLine {
 
 /// `blocker T D`, after so many amounts.
 pub fn blocker_on(uses: u64, line: Line<'_>) -> Result<BlockerLine, Refusal<PlanKind>>
-    requires { uses ≤ most_uses }
+    requires { uses ≤ most_positions }
     ensures judged { let r = row line.entry.number line.entry.text.now in
         Gives (tested (blocker_tests uses r) (record { task = blocker_task r; own = own_stated r })) result }
-    ensures few { IfOk result (λ b. uses + b.own ≤ most_uses) }
+    ensures few { IfOk result (λ b. uses + b.own ≤ most_positions) }
 {
     let no_section = fault(line.number, PlanKind::Section);
     let no_number = fault(line.number, PlanKind::Number);
@@ -149,8 +149,8 @@ pub fn blocker_on(uses: u64, line: Line<'_>) -> Result<BlockerLine, Refusal<Plan
     }
     let task = number_up_to(MOST_NUMBER, task).ok_or(no_number)?;
     let own = number(own).ok_or(no_number)?;
-    if own > MOST_USES - uses {
-        return Err(Refusal::Limit(LimitName::Uses));
+    if own > MOST_POSITIONS - uses {
+        return Err(Refusal::Limit(LimitName::Positions));
     }
     Ok(BlockerLine {
         task: task as u32,

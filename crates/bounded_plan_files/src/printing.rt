@@ -59,8 +59,8 @@ fn print_blockers(blockers: &[Blocker], report: &mut Report) -> Result<(), NoMem
     Ok(())
 }
 
-// The word for an event.
-fn event_word(event: Event) -> &'static str
+/// The word for an event.
+pub fn event_word(event: Event) -> &'static str
     ensures { result.now ≡ event_word event }
 {
     match event {
@@ -90,6 +90,7 @@ fn print_evidence(evidence: &BoundEvidence, report: &mut Report) -> Result<(), N
 {
     printed_lines();
     match evidence {
+        BoundEvidence::Sums(Evidence::Start) => print_section("need", 0, report),
         BoundEvidence::Sums(Evidence::Need(task)) => print_section(
             "need",
             u64::from(*task),
@@ -162,8 +163,7 @@ pub fn print_bound(
 
 /// Appends the lines of a plan file of version 3. Linear in the tasks and the evidence.
 ///
-/// The text of a plan with claims or a need is shorter than a file may be. That of a set need not be: an amount takes up to 32 bytes, and
-/// there may be 10,000,000 of them. It is then refused where a file is read, by its bytes.
+/// Whatever is printed is within the bytes that a file may have, so that it can be read again (`laws::printed_length`).
 ///
 /// Where memory runs out, the report stays as it was.
 pub fn print_bounded_plan(plan: &BoundedPlan, report: &mut Report) -> Result<(), NoMemory>

@@ -1,12 +1,12 @@
 ghost use Rattle.std.specs.Prelude.{◌≡◌, ◌≤◌, ◌<◌, [], IfOk, MatchResult};
-ghost use Rattle.limits.specs.Limits.{most_uses};
+ghost use Rattle.limits.specs.Limits.{most_positions};
 ghost use Rattle.mp_text.specs.Ahead.{row};
 ghost use Rattle.mp_text.specs.Reading.{Steps, tested};
 ghost use Rattle.file_frame.specs.Frame.{last_tests};
 ghost use Rattle.bounded_plans.specs.BoundedPlan.{IsBoundedPlan};
 ghost use Rattle.bounded_plan_files.specs.BoundedPlanFile.{Stated, nothing, sort_on, evidence_tests, blocker_tests, tests_after_amounts};
 ghost use Rattle.bounded_plan_files.specs.BoundedPlanFile.{blockers_at, with_blocker, bounded_plan_format, plan_stated, ReadsBoundedPlan};
-ghost use Rattle.bounded_plan_files.specs.BoundedPlanFile.{IsBoundedPlanRefusal, amount_tests};
+ghost use Rattle.bounded_plan_files.specs.BoundedPlanFile.{IsBoundedPlanRefusal, amount_tests, need_stated};
 ghost use Rattle.bounded_plan_files.specs.Reader.{sort_next, with_base_amount, with_own_amount, set_ended, after_amounts, staged_step, plan_step, plan_end, took};
 
 use crate::NoMemory;
@@ -37,7 +37,7 @@ pub struct BoundedPlanReader {
     pub peak: u64,
     pub bound: u64,
     pub sort: Sort,
-    // of `need T`, or of the blocker at hand, with its amounts and those before it
+    // of `need T`, 0 for none, or of the blocker at hand, with its amounts and those before it
     pub task: u32,
     pub claims: Vec<Claim>,
     pub base: Vec<Amount>,
@@ -64,7 +64,18 @@ impl Model for BoundedPlanReader {
       blockers = s.blockers.items;
     } };
 
-    ghost invariant = { λ s. s.uses ≤ most_uses };
+    ghost invariant = { λ s. s.uses ≤ most_positions };
+}
+
+// The need of a task, or what is there before any task has run where the number is 0, which is no task.
+fn need_stated(task: u32) -> Evidence
+    ensures { result ≡ need_stated task }
+{
+    if task == 0 {
+        Evidence::Start
+    } else {
+        Evidence::Need(task)
+    }
 }
 
 impl BoundedPlanReader {
@@ -328,7 +339,7 @@ impl BoundedPlanReader {
             ..
         } = self;
         let evidence = match sort {
-            Sort::Need => BoundEvidence::Sums(Evidence::Need(task)),
+            Sort::Need => BoundEvidence::Sums(need_stated(task)),
             Sort::First => BoundEvidence::Sums(Evidence::Set(EventSet::new(
                 Event::First,
                 base,

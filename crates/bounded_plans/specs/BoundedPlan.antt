@@ -2,12 +2,12 @@
 -- They are this project's own.
 use Rattle.std.specs.Prelude.{ℕ, ◌+◌, ◌≤◌, List, length, All}
 use Rattle.std.specs.List.{sum_by}
-use Rattle.limits.specs.Limits.{most_tasks, most_positions, most_total, most_uses}
+use Rattle.limits.specs.Limits.{most_tasks, most_positions, most_total}
 use Rattle.plans.specs.declared.claim.Claim.{Claim}
 use Rattle.plans.specs.Plan.{most_number, IsClaimWithin, RiseFrom}
 use Rattle.peak_bounds.specs.EventSets.{BlockerValue, EventSetValue}
 use Rattle.peak_bounds.specs.Evidence.{AreAmounts}
-use Rattle.peak_bounds.specs.declared.evidence.Evidence.TheVariants.{Need, Set}
+use Rattle.peak_bounds.specs.declared.evidence.Evidence.TheVariants.{Start, Need, Set}
 use Rattle.bounded_plans.specs.declared.evidence.BoundEvidence.{BoundEvidence}
 use Rattle.bounded_plans.specs.declared.evidence.BoundEvidence.TheVariants.{Sums, Claims}
 
@@ -25,7 +25,8 @@ own_count blocker = length blocker.amounts
 abbrev pub amount_count : EventSetValue → ℕ
 amount_count set = length set.base + sum_by own_count set.blockers
 
--- what a blocker and a set keep to, whatever the system: places from 1 that rise, amounts from -2^60 to 2^60, and not too many of them
+-- what a blocker and a set keep to, whatever the system: places from 1 that rise, amounts from -2^60 to 2^60, and few enough of them that
+-- the text of a plan with them is one of a file
 pub record IsBlockerWithin (blocker : BlockerValue) : Type 0 where
   pub task : blocker.task ≤ most_number
   pub amounts : AreAmounts most_number blocker.amounts
@@ -34,7 +35,7 @@ pub record IsSetWithin (set : EventSetValue) : Type 0 where
   pub base : AreAmounts most_number set.base
   pub few : length set.blockers ≤ most_tasks
   pub blockers : All IsBlockerWithin set.blockers
-  pub few_amounts : amount_count set ≤ most_uses
+  pub few_amounts : amount_count set ≤ most_positions
 
 -- what claims keep to, as those of a plan
 pub record AreClaimsWithin (claims : List Claim) : Type 0 where
@@ -42,8 +43,10 @@ pub record AreClaimsWithin (claims : List Claim) : Type 0 where
   pub each : All IsClaimWithin claims
   pub rising : RiseFrom 0 claims
 
+-- what evidence keeps to: task 0 is no task, so the need of a task is that of a number from 1
 abbrev pub IsWithin : BoundEvidence → Type 0
-IsWithin (Sums (Need task)) = task ≤ most_number
+IsWithin (Sums Start) = Unit {0}
+IsWithin (Sums (Need task)) = (1 ≤ task) × (task ≤ most_number)
 IsWithin (Sums (Set set)) = IsSetWithin set
 IsWithin (Claims claims) = AreClaimsWithin claims
 

@@ -3,6 +3,8 @@
 
 mod evidence;
 mod plan;
+mod within;
 
 pub use evidence::{BoundEvidence, ClaimList};
 pub use plan::BoundedPlan;
+pub use within::evidence_within;
