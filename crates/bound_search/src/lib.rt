@@ -4,11 +4,13 @@
 //! within an effort counted in steps, and never by a clock.
 #![tactic(auto)]
 
+mod certified;
 mod closure;
 mod effort;
 mod growth;
 mod kept_flow;
 mod lowering;
+mod needs;
 mod network;
 mod order;
 mod rows;
@@ -17,7 +19,7 @@ mod tables;
 mod use_table;
 mod within;
 
-pub use search::find_bound;
+pub use certified::{CertifiedBound, certify_bound};
 use std::alloc::AllocError;
 
 /// Want of memory: an allocation was refused.

@@ -6,7 +6,7 @@ use crate::growth::Growth;
 use crate::lowering::evidence_of;
 use crate::network::{Network, signed};
 use crate::order::{backwards, order_of};
-use crate::tables::{add_amount, amount_at, count_of, number_at, put_amount};
+use crate::tables::{amount_at, count_of, number_at, put_amount};
 use crate::use_table::UseTable;
 use crate::within::cut_of;
 use peak_bounds::Evidence;
@@ -36,9 +36,10 @@ struct Found {
     set: Vec<u32>,
 }
 
-// What was found so far, each with a higher bound than the one before.
+/// What was found so far, each with a higher bound than the one before.
 #[derive(Drop)]
-struct Search {
+pub struct Search {
+    table: UseTable,
     forwards: Side,
     mirrored: Side,
     // What each task needs at most in the order, and the most of these.
@@ -48,29 +49,6 @@ struct Search {
     effort: u64,
     spent: u64,
     found: Vec<Found>,
-}
-
-// The task that reads and needs the most, and how much it is.
-fn most_needing(
-    alloc: Global,
-    system: &SharedSystem,
-    network: &Network,
-) -> Result<(u32, i64), NoMemory> {
-    let mut reads = vec![in alloc; 0; network.nodes() as usize]?;
-    let items = system.items();
-    for i in 0..items.len() {
-        for reader in items.readers(i) {
-            add_amount(&mut reads, *reader, signed(items.size(i)));
-        }
-    }
-    let mut best = (1, 0);
-    for task in 1..=network.tasks() {
-        let memory = amount_at(&reads, task).saturating_add(network.need(task));
-        if memory > best.1 {
-            best = (task, memory);
-        }
-    }
-    Ok(best)
 }
 
 // What each node needs at most in an order, and the most of these.
@@ -88,7 +66,13 @@ fn starts_of(alloc: Global, network: &Network, order: &[u32]) -> Result<(Vec<i64
 }
 
 impl Search {
-    fn new(alloc: Global, system: &SharedSystem, effort: u64) -> Result<Search, NoMemory> {
+    /// What is found above a bound, with an effort that is counted in steps. It is not promised to hold: whoever needs that judges the evidence.
+    pub fn new(
+        alloc: Global,
+        system: &SharedSystem,
+        effort: u64,
+        bound: u64,
+    ) -> Result<Search, NoMemory> {
         let network = Network::new(alloc, system)?;
         let order = order_of(alloc, &network)?;
         let (starts, peak) = starts_of(alloc, &network, &order)?;
@@ -96,16 +80,26 @@ impl Search {
             network: network.mirror(alloc)?,
             order: backwards(alloc, &order)?,
         };
-        Ok(Search {
+        let mut search = Search {
+            table: UseTable::new(alloc, system)?,
             forwards: Side { network, order },
             mirrored,
             starts,
             peak,
-            bound: 0,
+            bound: signed(bound),
             effort,
             spent: 0,
             found: Vec::new(alloc),
-        })
+        };
+        search.cut_some(alloc)?;
+        search.grow(alloc, true, effort / 2)?;
+        search.grow(alloc, false, effort / 2)?;
+        Ok(search)
+    }
+
+    /// How many bounds were found that were not yet asked for.
+    pub fn found(&self) -> usize {
+        self.found.len()
     }
 
     fn spend(&mut self, effort: Effort) {
@@ -183,50 +177,32 @@ impl Search {
         Ok(())
     }
 
-    // The best evidence that can be made of what was found.
-    fn evidence(
-        mut self,
-        alloc: Global,
-        system: &SharedSystem,
-    ) -> Result<Option<(i64, Evidence)>, NoMemory> {
-        let table = UseTable::new(alloc, system)?;
-        for _ in 0..self.found.len() {
-            let Some(found) = self.found.pop() else {
-                break;
-            };
-            let Found {
-                bound,
-                is_first,
-                mut set,
-            } = found;
-            set.sort_unstable();
-            let side = side_of(&self.forwards, &self.mirrored, is_first);
-            let effort = Effort::new(self.effort);
-            let evidence = evidence_of(alloc, &side.network, &side.order, &table, &set, effort)?;
-            if let Some(set) = evidence {
-                return Ok(Some((bound, Evidence::Set(set))));
-            }
+    // The evidence of what was found; none if the effort does not suffice for it.
+    fn evidence(&self, alloc: Global, found: &mut Found) -> Result<Option<Evidence>, NoMemory> {
+        found.set.sort_unstable();
+        let side = side_of(&self.forwards, &self.mirrored, found.is_first);
+        let evidence = evidence_of(
+            alloc,
+            &side.network,
+            &side.order,
+            &self.table,
+            &found.set,
+            Effort::new(self.effort),
+        )?;
+        match evidence {
+            Some(set) => Ok(Some(Evidence::Set(set))),
+            None => Ok(None),
         }
-        Ok(None)
     }
-}
 
-/// A lower bound on the peak of every traversal of a system, with evidence for it: the best that growth finds in both directions
-/// with an effort, counted in steps. It is not promised to hold: whoever needs that judges the evidence.
-pub fn find_bound(
-    alloc: Global,
-    system: &SharedSystem,
-    effort: u64,
-) -> Result<(u64, Evidence), NoMemory> {
-    let mut search = Search::new(alloc, system, effort)?;
-    let (task, need) = most_needing(alloc, system, &search.forwards.network)?;
-    search.bound = need;
-    search.cut_some(alloc)?;
-    let half = effort / 2;
-    search.grow(alloc, true, half)?;
-    search.grow(alloc, false, half)?;
-    match search.evidence(alloc, system)? {
-        Some((bound, evidence)) => Ok((u64::try_from(bound).unwrap_or(0), evidence)),
-        None => Ok((u64::try_from(need).unwrap_or(0), Evidence::Need(task))),
+    /// The highest bound that was not yet asked for, with its evidence; none if there is no evidence for it.
+    pub fn next(&mut self, alloc: Global) -> Result<Option<(u64, Evidence)>, NoMemory> {
+        let Some(mut found) = self.found.pop() else {
+            return Ok(None);
+        };
+        match self.evidence(alloc, &mut found)? {
+            Some(evidence) => Ok(Some((u64::try_from(found.bound).unwrap_or(0), evidence))),
+            None => Ok(None),
+        }
     }
 }

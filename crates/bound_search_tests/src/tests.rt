@@ -1,6 +1,6 @@
 //! Bounds of small systems, with the least peaks worked by hand.
 
-use bound_search::find_bound;
+use bound_search::certify_bound;
 use mp_system::GivenTask;
 use peak_bounds::{Event, Evidence};
 use shared_systems::{GivenSharedItem, SharedSystem, shared_system_of_arrays};
@@ -51,13 +51,30 @@ fn diamond(alloc: Global) -> Option<SharedSystem> {
     system_of(alloc, &tasks, &items, &[2, 3, 4, 4])
 }
 
-// A bound that was found: its value, how many tasks show it (0 for the need of one), and whether as the last to run.
-fn found(alloc: Global, system: Option<SharedSystem>, effort: u64) -> Option<(u64, usize, bool)> {
-    match find_bound(alloc, &system?, effort) {
-        Ok((bound, Evidence::Need(_))) => Some((bound, 0, false)),
-        Ok((bound, Evidence::Set(set))) => {
-            Some((bound, set.blockers().len(), set.event() == Event::Last))
-        }
+// What shows a bound: the start, the need of a task, or that one of so many tasks runs first, or last.
+#[derive(Clone, Copy, Debug, PartialEq, Eq)]
+enum Shown {
+    Start,
+    Need(u32),
+    First(usize),
+    Last(usize),
+}
+
+fn shown_by(evidence: &Evidence) -> Shown {
+    match evidence {
+        Evidence::Start => Shown::Start,
+        Evidence::Need(task) => Shown::Need(*task),
+        Evidence::Set(set) => match set.event() {
+            Event::First => Shown::First(set.blockers().len()),
+            Event::Last => Shown::Last(set.blockers().len()),
+        },
+    }
+}
+
+// The bound that is found with an effort, and what shows it.
+fn found(alloc: Global, system: Option<SharedSystem>, effort: u64) -> Option<(u64, Shown)> {
+    match certify_bound(alloc, &system?, effort) {
+        Ok(certified) => Some((certified.bound, shown_by(&certified.evidence))),
         Err(_) => None,
     }
 }
@@ -65,25 +82,46 @@ fn found(alloc: Global, system: Option<SharedSystem>, effort: u64) -> Option<(u6
 #[test]
 fn the_last_leaf_has_something_beside_it(rt: HostRuntime) {
     let alloc = rt.alloc();
-    assert_eq!(rt; found(alloc, tree(alloc), 100_000), Some((11, 2, true)));
+    assert_eq!(rt;
+        found(alloc, tree(alloc), 100_000),
+        Some((11, Shown::Last(2)))
+    );
 }
 
 #[test]
 fn a_need_may_be_all_there_is_to_show(rt: HostRuntime) {
     let alloc = rt.alloc();
-    assert_eq!(rt; found(alloc, diamond(alloc), 100_000), Some((10, 0, false)));
+    assert_eq!(rt;
+        found(alloc, diamond(alloc), 100_000),
+        Some((10, Shown::Need(3)))
+    );
 }
 
-// A task that takes over the 6 that it reads needs nothing beside them.
+// A task that takes over the 6 that it reads needs nothing beside them: no more than what is there at the start.
 #[test]
 fn what_a_task_takes_over_counts_once(rt: HostRuntime) {
     let alloc = rt.alloc();
     let system = system_of(alloc, &[task(6, 6)], &[item(6, 0, 1)], &[1]);
-    assert_eq!(rt; found(alloc, system, 1_000), Some((6, 0, false)));
+    assert_eq!(rt; found(alloc, system, 1_000), Some((6, Shown::Start)));
+}
+
+// Of the 12 that are there at the start the task reads 3.
+#[test]
+fn the_start_may_be_more_than_any_need(rt: HostRuntime) {
+    let alloc = rt.alloc();
+    let system = system_of(alloc, &[task(0, 0)], &[item(3, 0, 1), item(9, 0, 0)], &[1]);
+    assert_eq!(rt; found(alloc, system, 1_000), Some((12, Shown::Start)));
+}
+
+#[test]
+fn without_tasks_the_start_is_left(rt: HostRuntime) {
+    let alloc = rt.alloc();
+    let system = system_of(alloc, &[], &[item(7, 0, 0)], &[]);
+    assert_eq!(rt; found(alloc, system, 1_000), Some((7, Shown::Start)));
 }
 
 #[test]
 fn without_effort_the_needs_are_left(rt: HostRuntime) {
     let alloc = rt.alloc();
-    assert_eq!(rt; found(alloc, tree(alloc), 0), Some((10, 0, false)));
+    assert_eq!(rt; found(alloc, tree(alloc), 0), Some((10, Shown::Need(1))));
 }
