@@ -1,0 +1,4 @@
+pub mod Shown
+pub mod Objections
+pub mod Accepted
+pub mod Failing
