@@ -8,6 +8,7 @@ ghost use Rattle.matrix_files.specs.MatrixFile.{ReadsPattern, RefusesPattern};
 ghost use Rattle.matrix_files.specs.OrderFile.{ReadsOrder, RefusesOrder};
 ghost use Rattle.matrix_files.specs.PermFile.{ReadsPerm, RefusesPerm};
 ghost use Rattle.plan_files.specs.PlanFile.{ReadsPlan, RefusesPlan};
+ghost use Rattle.bounded_plan_files.specs.BoundedPlanFile.{ReadsBoundedPlan, RefusesBoundedPlan};
 ghost use Rattle.workflow_files.specs.WorkflowFile.{ReadsWorkflow, RefusesWorkflow};
 ghost use Rattle.shared_graph_files.specs.EitherVersion.{StatesEither, ReadsSharedGraph, RefusesSharedGraph};
 ghost use Rattle.tree_files.specs.TreeFile.{ReadsTree, RefusesTree};
@@ -16,6 +17,8 @@ ghost use Rattle.judging.specs.Judged.{IsStopAt, IsStopFor, IsJudged, IsRefusalO
 
 use crate::page::{format_page, limit_page};
 use crate::stop::Stop;
+use bounded_plan_files::read_bounded_plan;
+use bounded_plans::BoundedPlan;
 use graph_files::GraphKind;
 use limits::LimitName;
 use matrix_files::{MatrixKind, OrderFileKind, PermKind, read_order, read_pattern, read_perm};
@@ -314,5 +317,29 @@ impl FileKind for PlanFile {
 
     fn read(&self, alloc: Global, text: Vec<u8>) -> Result<Plan, Refusal<PlanKind>> {
         read_plan(alloc, &text)
+    }
+}
+
+/// A plan file of version 3.
+#[derive(Clone, Copy, Debug)]
+pub struct BoundedPlanFile;
+
+impl FileKind for BoundedPlanFile {
+    type Value = BoundedPlan;
+
+    type Kind = PlanKind;
+
+    ghost file_word = { λ _. codes "plan" };
+
+    ghost reads = { λ _. ReadsBoundedPlan };
+
+    ghost refuses = { λ _. RefusesBoundedPlan };
+
+    fn word(&self) -> &'static str {
+        "plan"
+    }
+
+    fn read(&self, alloc: Global, text: Vec<u8>) -> Result<BoundedPlan, Refusal<PlanKind>> {
+        read_bounded_plan(alloc, &text)
     }
 }

@@ -11,8 +11,8 @@ mod status;
 mod stop;
 
 pub use files::{
-    EitherGraphFile, FileKind, MatrixFile, OrderFile, PermFile, PlanFile, Ranked, SharedGraphFile,
-    TreeFile, WorkflowFile, judge,
+    BoundedPlanFile, EitherGraphFile, FileKind, MatrixFile, OrderFile, PermFile, PlanFile, Ranked,
+    SharedGraphFile, TreeFile, WorkflowFile, judge,
 };
 pub use inputs::{
     Order, OrderedPattern, OrderedTasks, Priority, Tasks, judge_input, judge_matrix,

@@ -1,3 +1,4 @@
+pub mod BoundLemmas
 pub mod DemoLemmas
 pub mod FrontLemmas
 pub mod OneFile
@@ -9,6 +10,7 @@ pub mod RunLemmas
 pub mod SimulationLemmas
 pub mod SoundAnswer
 pub mod GapLemmas
+pub mod GraphLemmas
 pub mod SpillLemmas
 pub mod StairPages
 pub mod StairsLemmas

@@ -34,7 +34,7 @@ use Rattle.reports.specs.Fronts.{IsFrontsOf}
 use Rattle.reports.specs.Post.{IsPost, post_answer}
 use Rattle.reports.specs.Replay.{IsReplayAnswer, IsReplayOf}
 use Rattle.requests.specs.Request.{Request, replay, tree, post, check, planning, simulate, demo, upgrade, spill, segments}
-use Rattle.requests.specs.Request.{reduce, Upgrade, IsInRange, IsMakeable, TreeInput, matrix_named, Input, OrderSource}
+use Rattle.requests.specs.Request.{check_graph, bounding, reduce, Upgrade, IsInRange, IsMakeable, TreeInput, matrix_named, Input, OrderSource}
 use Rattle.requests.specs.Request.{TaskSource, input_tasks, graph_tasks, task_files}
 use Rattle.requests.specs.Request.{order_named, plan_named, Simulation, FileRole, NamedFile, tree_input_files, input_files}
 use Rattle.requests.specs.Request.{source_file, priority_file, priority_files, files_of, fronts, OrderedMatrix}
@@ -47,6 +47,7 @@ use Rattle.reports.specs.Upgrade.{Versioned, IsUpgradedFrom}
 use Rattle.requests.specs.declared.commands.demo.Demo.{Demo}
 use Rattle.judging.proofs.InputLemmas.{ordered_accepted, matrix_accepted, tree_accepted, input_accepted, source_accepted, work_has_system}
 use Rattle.judging.proofs.InputLemmas.{system_accepted}
+use Rattle.reports.proofs.BoundLemmas.{given_accepted}
 use Rattle.reports.proofs.OneInput.{IsRunnable, Systems, TaskSystems, same_texts, same_task_texts}
 use Rattle.reports.proofs.UpgradeLemmas.{upgrade_accepted, one_upgrade_answer}
 use Rattle.reports.proofs.StairsLemmas.{one_segments, numbered_accepted}
@@ -212,6 +213,7 @@ module _ (r : Reports) where
       let one = r.trees input texts nodes nodes' is is' in
       posted_once nodes a b one.1 best (subst (λ (ns : List Node). IsPost ns b) (sym one.0) best')
   one_report (check input plan workers) texts a b has decided is is' = checked_once input texts a b is is'
+  one_report (check_graph graph name workers) texts a b has decided is is' = absurd decided
   one_report (planning input format) texts a b workers decided is is' = absurd decided
   one_report (simulate tasks source s) texts a b workers decided is is' = simulated_once tasks source s texts a b workers.0 is is'
   one_report (demo made) texts a b within decided is is' = r.demos made a b within is is'
@@ -220,6 +222,7 @@ module _ (r : Reports) where
   one_report (segments input) texts a b within decided is is' = one_segments r.numbered r.stairs input texts a b is is'
   one_report (fronts m bound workers) texts a b within decided is is' = r.fronts m bound workers texts a b within.0 is is'
   one_report (reduce name) texts a b within decided is is' = absurd decided
+  one_report (bounding graph order effort) texts a b within decided is is' = absurd decided
 
   -- ---- files that have values
 
@@ -274,6 +277,8 @@ module _ (r : Reports) where
   report_accepted (check input name workers) texts a (mine, text, s, ps, plan, split, with_term, is_plan, is) =
       with_input input (source_file (plan_named name) ∷ []) texts mine (text ∷ []) s split
       (work_has_system input mine s ps with_term) ((plan, is_plan), tt)
+  report_accepted (check_graph graph name workers) texts a (text, file, system, plan, e, is, is_plan, x) =
+      subst (AreAccepted (files_of (check_graph graph name workers)) []) (sym e) ((system, is), ((plan, is_plan), tt))
   report_accepted (planning input format) texts a is =
       input_accepted input texts is.system (work_has_system input texts is.system is.positions is.with_term)
   report_accepted (simulate tasks source s) texts a
@@ -296,6 +301,9 @@ module _ (r : Reports) where
   report_accepted (reduce name) texts a (text, stated, e, is, x) =
       subst (AreAccepted (files_of (reduce name)) []) (sym e)
       ((system_of_either stated, (is.0, stated_is_read (is_second text) text stated is.1)), tt)
+  report_accepted (bounding graph name effort) texts a (text, rest, system, order, e, is, given, x) =
+      subst (AreAccepted (files_of (bounding graph name effort)) []) (sym e)
+      ((system, is), given_accepted name (text ∷ []) rest order given)
 
 -- ---- refusals in turn
 

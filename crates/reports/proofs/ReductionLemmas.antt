@@ -21,7 +21,7 @@ use Rattle.shared_systems.specs.SharedTraversal.{IsSharedTraversal, IsLeastShare
 use Rattle.shared_systems.specs.Bounds.{IsSharedSystem}
 use Rattle.shared_graph_files.specs.declared.either.EitherGraph.TheVariants.{Arcs, Items}
 use Rattle.shared_graph_files.specs.SharedGraphFile.{ReadsItems}
-use Rattle.shared_graph_files.specs.EitherVersion.{is_second, StatesEither}
+use Rattle.shared_graph_files.specs.EitherVersion.{is_second}
 use Rattle.shared_graph_files.proofs.EitherLemmas.{arcs_stated, items_stated}
 use Rattle.shared_reduce.specs.SharedTerm.{IsSharedTerm, told}
 use Rattle.judging.specs.Files.{Answer, IsGraphFile, IsItemsFile, IsWorkflowFile}

@@ -2,6 +2,8 @@ pub mod Replay
 pub mod Tree
 pub mod Post
 pub mod Check
+pub mod CheckGraph
+pub mod Bound
 pub mod Plan
 pub mod Simulate
 pub mod Demo

@@ -1,10 +1,12 @@
 -- What each command promises of what it prints, beside that it is an answer.
 use Rattle.std.specs.Prelude.{◌≡◌, ◌≤◌, ℕ, List}
 use Rattle.requests.specs.Request.{Request, replay, tree, post, check, planning, simulate, demo, upgrade, spill, segments, fronts, reduce}
-use Rattle.requests.specs.Request.{IsMakeable}
+use Rattle.requests.specs.Request.{check_graph, bounding, IsMakeable}
 use Rattle.judging.specs.Files.{Answer}
 use Rattle.reports.specs.Reports.{IsReport}
 use Rattle.reports.specs.Check.{IsCertified}
+use Rattle.reports.specs.CheckGraph.{IsBoundCertified}
+use Rattle.reports.specs.Bound.{IsBounded}
 use Rattle.reports.specs.Plan.{IsBestPlan}
 use Rattle.reports.specs.Simulate.{IsSimulated}
 use Rattle.reports.specs.Demo.{IsShown}
@@ -31,6 +33,9 @@ Says (post input) texts ended printed = ended ≡ status.Done → IsReport (post
 -- where a plan was checked and accepted, its order is a traversal of the input's system, its peak is the one that it states and that
 -- was printed, and no traversal has a lower one
 Says (check input plan workers) texts ended printed = ended ≡ status.Done → IsCertified input texts printed
+-- where a plan with a bound was checked and accepted, its order is a traversal of the task graph, its peak is the one that it states and
+-- that was printed, and no traversal has a peak below the bound; where `least` was printed, none has a lower one
+Says (check_graph graph plan workers) texts ended printed = ended ≡ status.Done → IsBoundCertified texts printed
 -- where a plan was made, what was printed is a plan file, or the JSON of its plan: the order is a traversal of the input's system, its
 -- peak is the one that the plan states, no traversal has a lower one, and `check` says yes to the file
 Says (planning input format) texts ended printed = ended ≡ status.Done → IsBestPlan input format texts printed
@@ -61,6 +66,9 @@ Says (fronts matrix bound workers) texts ended printed = ended ≡ status.Done �
 Says (reduce name) texts ended printed = by_version (are_second texts)
     ((ended ≡ status.Done → IsReduced texts printed) × (ended ≡ status.NotSeriesParallel → HasIrreducibleRest texts printed))
     ((ended ≡ status.Done → IsReducedItems texts printed) × (ended ≡ status.NotSeriesParallel → HasItemsRefusal texts printed))
+-- where a bound was printed, no traversal of the task graph has a peak below it, and the evidence was printed with it, which `check` takes;
+-- it is at least what is there at the start, and what each task reads and needs; the peak that was printed before it is that of the order
+Says (bounding graph order effort) texts ended printed = ended ≡ status.Done → IsBounded order texts printed
 
 -- what is asked of a request for that: a run has a worker, and an input that is to be made can be
 abbrev pub IsPossible : Request → Type 0

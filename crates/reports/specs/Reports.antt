@@ -3,10 +3,12 @@
 use Rattle.std.specs.Prelude.{◌≡◌, ℕ, List, [], ◌⊎◌}
 use Rattle.trees.specs.declared.node.Node.{Node}
 use Rattle.requests.specs.Request.{Request, replay, tree, post, check, planning, simulate, demo, upgrade, spill, fronts, segments, reduce}
-use Rattle.requests.specs.Request.{files_of}
+use Rattle.requests.specs.Request.{check_graph, bounding, files_of}
 use Rattle.reports.specs.Replay.{IsReplayOf}
 use Rattle.judging.specs.Files.{IsTreeOf, IsFirstRefusal, IsMatrixTree, Answer}
 use Rattle.reports.specs.Check.{IsCheckOf}
+use Rattle.reports.specs.CheckGraph.{IsBoundCheckOf}
+use Rattle.reports.specs.Bound.{IsBoundOf}
 use Rattle.reports.specs.Simulate.{IsSimulationOf}
 use Rattle.reports.specs.Plan.{IsPlanOf}
 use Rattle.reports.specs.Demo.{IsDemoOf}
@@ -24,6 +26,7 @@ IsReport (replay tasks source) texts answer = IsReplayOf tasks source texts answ
 IsReport (tree m) texts answer = (nodes : List Node) × IsMatrixTree m texts nodes × (answer ≡ tree_answer nodes)
 IsReport (post input) texts answer = (nodes : List Node) × IsTreeOf input texts nodes × IsPost nodes answer
 IsReport (check input plan workers) texts answer = IsCheckOf input texts answer
+IsReport (check_graph graph plan workers) texts answer = IsBoundCheckOf texts answer
 IsReport (planning input format) texts answer = IsPlanOf input format texts answer
 IsReport (simulate tasks source s) texts answer = IsSimulationOf tasks source s texts answer
 IsReport (demo made) texts answer = IsDemoOf made answer
@@ -32,13 +35,17 @@ IsReport (spill tasks source bound) texts answer = IsSpillOf tasks source bound 
 IsReport (segments input) texts answer = IsSegmentsOf input texts answer
 IsReport (fronts m bound workers) texts answer = IsFrontsOf m bound workers texts answer
 IsReport (reduce name) texts answer = IsReduceOf texts answer
+IsReport (bounding graph order effort) texts answer = IsBoundOf order texts answer
 
 -- the files of a request decide its answer; but `plan` may print any plan of least peak with a certificate, `spill` the amounts of any
--- spill plan of least volume, and `reduce` any term of a graph or any irreducible rest
+-- spill plan of least volume, `reduce` any term of a graph or any irreducible rest, `bound` any bound for which there is evidence, and
+-- `check` may judge the claims of a plan on any term of a graph
 abbrev pub IsDecided : Request → Type 0
 IsDecided (planning input format) = ⊥
 IsDecided (spill tasks source bound) = ⊥
 IsDecided (reduce name) = ⊥
+IsDecided (bounding graph order effort) = ⊥
+IsDecided (check_graph graph plan workers) = ⊥
 IsDecided request = Unit {0}
 
 -- the answer to a request over the texts of its files

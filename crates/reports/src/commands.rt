@@ -1,6 +1,8 @@
 //! The commands, each with what it asks for, what it reads, what it answers and how that is printed.
 
+pub mod bound;
 pub mod check;
+pub mod check_graph;
 pub mod demo;
 pub mod fronts;
 pub mod gap_report;
@@ -44,6 +46,9 @@ pub fn report<R: Threads + Sync, F: Files, G: Gate>(
         Request::Tree(matrix) => tree::report_tree(alloc, files, matrix),
         Request::Post(input) => post::report_post(alloc, files, input),
         Request::Check(asked) => check::report_check(rt, alloc, files, asked, gate),
+        Request::CheckGraph(asked) => {
+            check_graph::report_check_graph(rt, alloc, files, asked, gate)
+        }
         Request::Plan(input, format) => plan::report_plan(alloc, files, input, format),
         Request::Simulate(asked) => simulate::report_simulate(alloc, files, asked),
         Request::Demo(made) => Ok(demo::report_demo(rt, alloc, made, gate)?),
@@ -52,5 +57,6 @@ pub fn report<R: Threads + Sync, F: Files, G: Gate>(
         Request::Segments(input) => segments::report_segments(alloc, files, input),
         Request::Fronts(asked) => fronts::report_fronts(rt, alloc, files, asked, gate),
         Request::Reduce(name) => reduce::report_reduce(alloc, files, name),
+        Request::Bound(asked) => bound::report_bound(alloc, files, asked),
     }
 }

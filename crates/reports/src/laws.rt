@@ -23,6 +23,8 @@ ghost use Rattle.requests.specs.declared.commands.demo.Demo.{Demo};
 ghost use Rattle.judging.specs.declared.status.Status.TheVariants.{Done};
 
 use activation::laws as run_laws;
+use bound_check::laws as bound_check_laws;
+use bounded_plan_files::laws as bounded_plan_laws;
 use claim_check::laws as claim_laws;
 use elim_tree::laws as fill_laws;
 use graph_files::laws as graph_file_laws;
@@ -31,6 +33,7 @@ use mp_gen::laws::made_inputs;
 use mp_system::laws as system_laws;
 use ordering::laws as order_laws;
 use patterns::laws as pattern_laws;
+use peak_bounds::laws as bound_laws;
 use plan_files::laws as plan_laws;
 use postorder_best::laws as postorder_laws;
 use rounds_run::laws as rounds_laws;
@@ -97,6 +100,7 @@ fn one_file()
     matrix_file_laws::exactly_one_perm();
     plan_laws::exactly_one();
     shared_graph_laws::exactly_one();
+    bounded_plan_laws::exactly_one();
 }
 
 // A demo has one answer: plans may differ, but not their peak; the checker says yes to them, and no traversal has a lower peak.
@@ -168,8 +172,8 @@ pub fn one_list_of_rows()
 }
 
 /// A request has one answer over the texts of its files, and so the program prints what these decide; but `plan` may print any plan of
-/// least peak with a certificate, `spill` the amounts of any spill plan of least volume, and `reduce` any term of a graph, or any
-/// reason why it has none.
+/// least peak with a certificate, `spill` the amounts of any spill plan of least volume, `reduce` any term of a graph, or any reason why it
+/// has none, `bound` any bound with its evidence, and `check` may judge the claims of a plan on any term of a graph.
 pub fn one_answer()
     ensures { (request : Request) (texts : List (List ℕ)) (one two : Answer) → IsInRange request → IsDecided request →
         IsAnswer request texts one → IsAnswer request texts two → one ≡ two }
@@ -194,8 +198,9 @@ pub fn one_answer()
 
 /// An answer says what its request promises, command by command: a yes certifies, a plan is best, a trace is of a run that was simulated,
 /// what was upgraded is what the printed file says, what is spilled is a spill plan of least volume, printed levels are reached, and none
-/// below them, the rows of a front are a structure of the filled graph, the workflow of a task graph has the graph's traversals, and a
-/// graph whose rest is told has no term, or one of version 2 none of that kind. It follows from being an answer.
+/// below them, the rows of a front are a structure of the filled graph, the workflow of a task graph has the graph's traversals, a graph whose
+/// rest is told has no term, or one of version 2 none of that kind, and no traversal of a graph has a peak below a bound that is told or
+/// accepted. It follows from being an answer.
 pub fn what_answers_say()
     ensures { (request : Request) (texts : List (List ℕ)) (answer : Answer) → IsPossible request →
         IsAnswer request texts answer → Says request texts answer.status answer.text }
@@ -216,6 +221,8 @@ pub fn what_answers_say()
     shared_graph_laws::either_law();
     shared_reduction_laws::told_term_law();
     shared_reduction_laws::names_law();
+    bound_laws::evidence_law();
+    bound_check_laws::accepted_law();
     workflow_laws::named_workflow();
     one_demo();
     one_upgrade();

@@ -83,6 +83,8 @@ pub data Request : Type 0 where
   post : TreeInput → Request
   -- whether a plan, by the name of its file, is accepted for an input; by so many workers
   check : Input → List ℕ → ℕ → Request
+  -- whether a plan with a bound is accepted for a task graph, by the names of their files; by so many workers
+  check_graph : List ℕ → List ℕ → ℕ → Request
   -- a traversal of least peak, with its certificate
   planning : Input → PlanFormat → Request
   -- the run of tasks on several workers within a bound, activated in an order
@@ -99,6 +101,8 @@ pub data Request : Type 0 where
   fronts : OrderedMatrix → ℕ → ℕ → Request
   -- the term of a task graph, by the name of its file
   reduce : List ℕ → Request
+  -- a number that no order of a task graph has a peak below, and the peak of the order of a file, if one is named; with so much effort
+  bounding : List ℕ → Option (List ℕ) → ℕ → Request
 
 -- ---- the options of a matrix
 
@@ -203,6 +207,15 @@ abbrev pub workers_or_one : Option (List ℕ) → Option ℕ
 workers_or_one None = Some 1
 workers_or_one (Some word) = number_up_to most_workers (Some word)
 
+-- how many steps a search may take, where no number is given
+abbrev pub default_effort : ℕ
+default_effort = 1000000000
+
+-- this effort, where no number is given
+abbrev pub effort_or_default : Option (List ℕ) → Option ℕ
+effort_or_default None = Some default_effort
+effort_or_default (Some word) = number_given (Some word)
+
 -- what the number of workers of a request keeps to
 abbrev pub AreWorkers : ℕ → Type 0
 AreWorkers n = (1 ≤ n) × (n ≤ most_workers)
@@ -215,6 +228,7 @@ IsMakeable (demos.Grid rows cols) = (1 ≤ rows) × (1 ≤ cols) × (rows * cols
 
 abbrev pub IsInRange : Request → Type 0
 IsInRange (check input plan workers) = AreWorkers workers
+IsInRange (check_graph graph plan workers) = AreWorkers workers
 IsInRange (simulate tasks source s) = AreWorkers s.workers
 IsInRange (demo made) = IsMakeable made
 IsInRange (fronts m bound workers) = AreWorkers workers
@@ -237,6 +251,8 @@ pub data FileRole : Type 0 where
   perm_file : FileRole
   order_file : FileRole
   plan_file : FileRole
+  -- a plan of version 3
+  bounded_plan_file : FileRole
   -- a priority ranks the tasks of a source, or those of a plan
   priority_file : TaskSource → FileRole
   plan_priority_file : FileRole
@@ -272,6 +288,11 @@ abbrev pub source_file : OrderSource → NamedFile
 source_file (order_named name) = record { role = order_file; name = name }
 source_file (plan_named name) = record { role = plan_file; name = name }
 
+-- an order file, if one is named
+abbrev pub order_files : Option (List ℕ) → List NamedFile
+order_files None = []
+order_files (Some name) = record { role = order_file; name = name } ∷ []
+
 -- a priority file of this role, if one is named
 abbrev pub priority_files : FileRole → Option (List ℕ) → List NamedFile
 priority_files role None = []
@@ -289,6 +310,8 @@ files_of (replay tasks source) = task_files tasks ++ source_file source ∷ []
 files_of (tree m) = matrix_files m
 files_of (post input) = tree_input_files input
 files_of (check input plan workers) = input_files input ++ source_file (plan_named plan) ∷ []
+files_of (check_graph graph plan workers) =
+    record { role = shared_graph_file; name = graph } ∷ record { role = bounded_plan_file; name = plan } ∷ []
 files_of (planning input format) = input_files input
 files_of (simulate tasks source s) = task_files tasks ++ source_file source ∷ priority_files (priority_file tasks) s.priority
 files_of (demo made) = []
@@ -297,3 +320,4 @@ files_of (spill tasks source bound) = task_files tasks ++ source_file source ∷
 files_of (segments input) = input_files input
 files_of (fronts m bound workers) = ordered_matrix_files m
 files_of (reduce name) = record { role = shared_graph_file; name = name } ∷ []
+files_of (bounding graph order effort) = record { role = shared_graph_file; name = graph } ∷ order_files order

@@ -3,7 +3,8 @@ use Rattle.std.specs.Prelude.{◌≡◌, ℕ, List, [], ◌∷◌, Option, optio
 use Rattle.std.specs.Prelude.{codes, ◌*◌, nat_le, Some, None, if◌then◌else◌}
 use Rattle.std.specs.Prelude.{find, map}
 use Rattle.std.specs.Prelude.{String, string_bytes}
-use Rattle.requests.specs.Request.{Request, check, input_of, workers_or_one, demo, gives_any, number_given, number_up_to}
+use Rattle.requests.specs.Request.{Request, TaskSource, input_tasks, graph_tasks, bounding, effort_or_default, check, check_graph}
+use Rattle.requests.specs.Request.{input_of, workers_or_one, demo, gives_any, number_given, number_up_to}
 use Rattle.requests.specs.Request.{fronts, ordering_of, planning, is_second, format_of}
 use Rattle.requests.specs.Request.{post, tree_input_of, reduce, replay, tasks_of, source_of, segments}
 use Rattle.requests.specs.Request.{simulate, spill, tree, matrix_of}
@@ -15,14 +16,26 @@ use Rattle.requests.specs.declared.commands.demo.Demo.{Demo}
 use Rattle.requests.specs.Options.{matrix_names, tree_names, input_names, task_names}
 use Rattle.requests.specs.declared.commands.demo.Demo.TheVariants as demos
 
--- `check`, one input, `--plan NAME`, and `--workers N` if it is given
+-- `bound`, `--graph NAME`, and `--order NAME` and `--effort E` if they are given
+abbrev pub bound_of : List Given → Option Request
+bound_of options =
+    option_and_then (λ graph.
+    option_map (bounding graph (value_of (codes "order") options)) (effort_or_default (value_of (codes "effort") options)))
+    (value_of (codes "graph") options)
+
+-- the check of a plan, of an input or of a task graph
+abbrev pub checking : TaskSource → List ℕ → ℕ → Request
+checking (input_tasks input) plan workers = check input plan workers
+checking (graph_tasks graph) plan workers = check_graph graph plan workers
+
+-- `check`, one input or task graph, `--plan NAME`, and `--workers N` if it is given
 abbrev pub check_of : List Given → Option Request
 check_of options =
-    option_and_then (λ input.
+    option_and_then (λ tasks.
     option_and_then (λ plan.
-    option_map (check input plan) (workers_or_one (value_of (codes "workers") options)))
+    option_map (checking tasks plan) (workers_or_one (value_of (codes "workers") options)))
     (value_of (codes "plan") options))
-    (input_of options)
+    (tasks_of options)
 
 -- `--seed S` and `--tasks N`, of at most 10^6 tasks, without rows and columns
 abbrev pub seeded_of : List Given → Option (ℕ × ℕ)
@@ -155,7 +168,7 @@ commands =
     record { name = codes "replay"; options = codes "order" ∷ codes "plan" ∷ task_names; asks = replay_of }
     ∷ record { name = codes "tree"; options = matrix_names; asks = tree_request_of }
     ∷ record { name = codes "post"; options = tree_names; asks = post_of }
-    ∷ record { name = codes "check"; options = codes "plan" ∷ codes "workers" ∷ input_names; asks = check_of }
+    ∷ record { name = codes "check"; options = codes "plan" ∷ codes "workers" ∷ task_names; asks = check_of }
     ∷ record { name = codes "plan"; options = codes "print" ∷ input_names; asks = plan_of }
     ∷ record {
       name = codes "simulate";
@@ -180,6 +193,7 @@ commands =
       asks = fronts_of;
     }
     ∷ record { name = codes "reduce"; options = codes "graph" ∷ []; asks = reduce_of }
+    ∷ record { name = codes "bound"; options = codes "graph" ∷ codes "order" ∷ codes "effort" ∷ []; asks = bound_of }
     ∷ []
 
 abbrev pub shape_of : Command → Shape

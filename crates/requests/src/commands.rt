@@ -1,5 +1,6 @@
 //! The commands, each with the words that ask for it.
 
+pub mod bound;
 pub mod check;
 pub mod demo;
 pub mod fronts;
@@ -23,7 +24,7 @@ use command_line::{Line, Shape, read_words};
 use std::alloc::{AllocError, Global};
 
 // Each command, with the names of its options.
-static COMMANDS: [Shape; 12] = [
+static COMMANDS: [Shape; 13] = [
     Shape {
         name: "replay",
         options: &[&["order", "plan", "graph"], INPUT, MATRIX_OPTIONS],
@@ -38,7 +39,7 @@ static COMMANDS: [Shape; 12] = [
     },
     Shape {
         name: "check",
-        options: &[&["plan", "workers"], INPUT, MATRIX_OPTIONS],
+        options: &[&["plan", "workers", "graph"], INPUT, MATRIX_OPTIONS],
     },
     Shape {
         name: "plan",
@@ -76,6 +77,10 @@ static COMMANDS: [Shape; 12] = [
         name: "reduce",
         options: &[&["graph"]],
     },
+    Shape {
+        name: "bound",
+        options: &[&["graph", "order", "effort"]],
+    },
 ];
 
 fn command_of<'a>(line: &Line<'a>) -> Option<Request<'a>>
@@ -95,6 +100,7 @@ fn command_of<'a>(line: &Line<'a>) -> Option<Request<'a>>
         "segments" => segments::segments_of(line),
         "fronts" => fronts::fronts_of(line),
         "reduce" => reduce::reduce_of(line),
+        "bound" => bound::bound_of(line),
         _ => None,
     }
 }

@@ -7,7 +7,8 @@
 mod commands;
 mod request;
 
-pub use commands::check::Check;
+pub use commands::bound::Bounding;
+pub use commands::check::{Check, GraphCheck};
 pub use commands::demo::Demo;
 pub use commands::fronts::FrontRun;
 pub use commands::replay::Replay;

@@ -1,11 +1,13 @@
 ghost use Rattle.std.specs.Prelude.{◌≡◌, ◌<◌, ◌≤◌, ◌^◌, IfSome, option_map};
 ghost use Rattle.requests.specs.Request.{is_second, ordering_named, ordering_of, zeros_named, matrix_of, gives_any, tree_input_of, input_of};
-ghost use Rattle.requests.specs.Request.{tasks_of, source_of, number_given, number_up_to, workers_or_one, AreWorkers};
+ghost use Rattle.requests.specs.Request.{tasks_of, source_of, number_given, number_up_to, effort_or_default};
+ghost use Rattle.requests.specs.Request.{workers_or_one, AreWorkers};
 ghost use Rattle.command_line.specs.Views.{texts};
 ghost use Rattle.requests.specs.Options.{matrix_options, tree_names, input_names};
 ghost use Rattle.requests.specs.RequestViews.{ordering_view, matrix_view, tree_input_view, input_view, tasks_view, source_view};
 
-use crate::commands::check::Check;
+use crate::commands::bound::Bounding;
+use crate::commands::check::{Check, GraphCheck};
 use crate::commands::demo::Demo;
 use crate::commands::fronts::FrontRun;
 use crate::commands::replay::Replay;
@@ -93,6 +95,8 @@ pub enum Request<'a> {
     Post(TreeInput<'a>),
     /// Whether the plan is accepted for the input.
     Check(Check<'a>),
+    /// Whether the plan with a bound is accepted for the task graph.
+    CheckGraph(GraphCheck<'a>),
     /// A traversal of least peak, with its certificate.
     Plan(Input<'a>, PlanFormat),
     /// The run of tasks on several workers within a bound, activated in the order.
@@ -109,6 +113,8 @@ pub enum Request<'a> {
     Fronts(FrontRun<'a>),
     /// The term of a task graph, by the name of its file.
     Reduce(&'a str),
+    /// What no order of a task graph has a peak below, with evidence.
+    Bound(Bounding<'a>),
 }
 
 // ---- the options that commands share
@@ -309,6 +315,19 @@ pub fn number_up_to(most: u64, given: Option<&str>) -> Option<u32>
     } else {
         None
     }
+}
+
+/// A search takes at most so many steps, where no number is given.
+const DEFAULT_EFFORT: u64 = 1_000_000_000;
+
+/// So many steps, or the default, where no number is given.
+pub fn effort_of(given: Option<&str>) -> Option<u64>
+    ensures { result ≡ effort_or_default (option_map (λ s. s.now) given.entry) }
+{
+    if given.is_none() {
+        return Some(DEFAULT_EFFORT);
+    }
+    number_given(given)
 }
 
 /// One worker, where no number is given.

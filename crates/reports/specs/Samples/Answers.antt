@@ -30,6 +30,13 @@ use Rattle.reports.specs.Replay.{peak_answer, IsReplayAnswer}
 use Rattle.reports.specs.Tree.{tree_answer}
 use Rattle.reports.specs.Post.{post_answer}
 use Rattle.reports.specs.Check.{verdict_answer, IsCheck, IsCertified}
+use Rattle.peak_bounds.specs.declared.evidence.BlockerTest.TheVariants as tests
+use Rattle.peak_bounds.specs.declared.evidence.Evidence.TheVariants.{Start, Need}
+use Rattle.peak_bounds.specs.declared.evidence.Objection.TheVariants as objections_to_sums
+use Rattle.bound_check.specs.declared.objection.BoundObjection.TheVariants as against
+use Rattle.bound_check.specs.declared.verdict.BoundVerdict.TheVariants as verdicts
+use Rattle.reports.specs.Bound.{bound_answer}
+use Rattle.reports.specs.CheckGraph.{bound_verdict_answer}
 use Rattle.reports.specs.Plan.{plan_answer}
 use Rattle.reports.specs.Simulate.{simulation_answer, setting_of, IsSimulation}
 use Rattle.reports.specs.Spill.{spill_answer, working_set_refused}
@@ -49,6 +56,26 @@ use Rattle.reports.specs.Samples.Plans.{nothing_is_a_shared_traversal}
 use Rattle.shared_systems.specs.OneReader.{shared_of}
 
 -- ---- reports
+
+abbrev pub no : List ℕ → Answer
+no text = record { status = status.No; text = text }
+
+-- the bound of README's tree as a graph by what its root reads, beside an order and alone
+pub bound_lines :
+    bound_answer (Some 15) 10 (Need 5) ∷ bound_answer None 0 Start ∷ []
+    ≡ done (codes "peak 15\nbound 10\nneed 5\nend\n") ∷ done (codes "bound 0\nneed 0\nend\n") ∷ []
+unfolding digits
+bound_lines = refl
+
+pub bound_verdict_lines :
+    map bound_verdict_answer
+    (verdicts.Least 11 ∷ verdicts.Above 15 10
+    ∷ verdicts.No (against.Sums (objections_to_sums.Blocker tests.Level 2))
+    ∷ verdicts.No against.NoTerm
+    ∷ [])
+    ≡ done (codes "yes 11 least\n") ∷ done (codes "yes 15 above 10\n") ∷ no (codes "no blocker 2 level\n") ∷ no (codes "no term\n") ∷ []
+unfolding digits
+bound_verdict_lines = refl
 
 pub peak_line : peak_answer 11 ≡ done (codes "peak 11\n")
 unfolding digits

@@ -8,6 +8,7 @@ use Rattle.requests.specs.Request.{Request, Input, tree_input, tree_named, matri
 use Rattle.requests.specs.Request.{perm_named, order_named, plan_named, replay, tree, post, check, planning, as_file, as_json, simulate}
 use Rattle.requests.specs.Request.{demo, upgrade, tree_upgrade, graph_upgrade, plan_upgrade, spill, segments, fronts, reduce, files_of, FileRole, tree_file}
 use Rattle.requests.specs.Request.{workflow_file, matrix_file, perm_file, order_file, plan_file, priority_file}
+use Rattle.requests.specs.Request.{check_graph, bounding, default_effort, bounded_plan_file}
 use Rattle.requests.specs.Request.{plan_priority_file, NamedFile, input_tasks, graph_tasks, shared_graph_file}
 use Rattle.requests.specs.Words.{request_of, AsksNothing}
 
@@ -100,6 +101,16 @@ pub reduce_asked : asked (codes "reduce --graph g") ≡ Some (reduce (codes "g")
 unfolding tokens_of
 reduce_asked = refl
 
+pub check_of_a_graph_asked : asked (codes "check --graph g --plan p --workers 4") ≡ Some (check_graph (codes "g") (codes "p") 4)
+unfolding tokens_of number_of number_from
+check_of_a_graph_asked = refl
+
+pub bound_asked :
+    asked (codes "bound --graph g") ∷ asked (codes "bound --effort 7 --graph g --order o") ∷ []
+    ≡ Some (bounding (codes "g") None default_effort) ∷ Some (bounding (codes "g") (Some (codes "o")) 7) ∷ []
+unfolding tokens_of number_of number_from
+bound_asked = refl
+
 -- ---- words that ask for nothing
 
 -- no words; help; no order; an order and a plan; a tree and a graph; two inputs; an option of matrices with a tree; no worker; two orders of elimination;
@@ -142,6 +153,8 @@ pub files_of_others :
     ∷ replay (graph_tasks (codes "g")) (order_named (codes "o"))
     ∷ upgrade (plan_upgrade (codes "p") (Some (codes "r")))
     ∷ reduce (codes "g")
+    ∷ check_graph (codes "g") (codes "p") 1
+    ∷ bounding (codes "g") (Some (codes "o")) 7
     ∷ demo (demos.Grid 2 3)
     ∷ [])
     ≡ (file (matrix_file (perm_named (codes "q"))) (codes "m") ∷ file perm_file (codes "q") ∷ [])
@@ -149,5 +162,7 @@ pub files_of_others :
     ∷ (file shared_graph_file (codes "g") ∷ file order_file (codes "o") ∷ [])
     ∷ (file plan_file (codes "p") ∷ file plan_priority_file (codes "r") ∷ [])
     ∷ (file shared_graph_file (codes "g") ∷ [])
+    ∷ (file shared_graph_file (codes "g") ∷ file bounded_plan_file (codes "p") ∷ [])
+    ∷ (file shared_graph_file (codes "g") ∷ file order_file (codes "o") ∷ [])
     ∷ [] ∷ []
 files_of_others = refl

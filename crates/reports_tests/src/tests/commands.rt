@@ -25,12 +25,18 @@ const GRAPH: &str =
 // Two tasks read the 7, and the second the 2 of the first.
 const CHAIN: &str = "graph 2\ntasks 2\n1 0 1\n1 0 1\nitems 2\n7 0 1 2\n2 1 2\nend\n";
 
+// No task, and 12 that are there at the start; and its plan.
+const IDLE: &str = "graph 2\ntasks 0\nitems 1\n12 0\nend\n";
+
+const BOUNDED: &str = "plan 3\norder 0\npeak 12\nbound 12\nneed 0\nend\n";
+
 // One task with a block of its own.
 const ONE: &str = "tree 1\nnodes 1\n0 7 2 1\nend\n";
 
 #[rattlefmt::skip]
 pub const FILES: Texts = &[
-    ("t", FIVE), ("o", "1 3 2 4 5\n"), ("p", "5 4 3 2 1\n"), ("m", ARROW), ("q", TURNED), ("g", GRAPH), ("h", CHAIN), ("s", PLAN), ("u", ONE),
+    ("t", FIVE), ("o", "1 3 2 4 5\n"), ("p", "5 4 3 2 1\n"), ("m", ARROW), ("q", TURNED), ("g", GRAPH), ("h", CHAIN), ("s", PLAN), ("u", ONE), ("i", IDLE),
+    ("b", BOUNDED),
 ];
 
 // ---- runs
@@ -48,6 +54,10 @@ pub const SEGMENTS: &str = "segments --tree t";
 pub const FRONTS: &str = "fronts --matrix m --perm q --bound 4 --workers 2";
 
 pub const REDUCE: &str = "reduce --graph g";
+
+pub const BOUND: &str = "bound --graph i";
+
+pub const CHECK_GRAPH: &str = "check --graph i --plan b --workers 2";
 
 // ---- what they print
 
@@ -83,6 +93,8 @@ const ANSWERS: &[(&str, &str)] = &[
     (SEGMENTS, OF_FIVE),
     (FRONTS, ABREAST),
     (REDUCE, WORKFLOW),
+    (BOUND, "bound 12\nneed 0\nend\n"),
+    (CHECK_GRAPH, "yes 12 least\n"),
     ("reduce --graph h", "workflow 1\ntasks 2\ndata 7\ndata 0\ndata 2\ntask 1 1\npar 2\ndata 0\ntask 1 1\nend\n# 1 1\n# 2 2\n"),
     ("upgrade --tree t", "tree 2\nnodes 5\n2 1 9 0 1\n5 5 0 0 1\n4 1 9 0 1\n5 5 0 0 1\n0 0 0 0 1\nend\n"),
     // a root alone, with a block of 850 and an extra of 764

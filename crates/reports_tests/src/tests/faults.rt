@@ -1,8 +1,8 @@
 //! Loads and writes that fail, and sinks that are full.
 
 use super::commands::{
-    ABREAST, BOTH, FILES, FRONTS, OF_FIVE, PLANNING, REDUCE, REPLAY, SEGMENTS, SIMULATE, SPILL,
-    TIGHT, WORKFLOW,
+    ABREAST, BOTH, BOUND, CHECK_GRAPH, FILES, FRONTS, OF_FIVE, PLANNING, REDUCE, REPLAY, SEGMENTS,
+    SIMULATE, SPILL, TIGHT, WORKFLOW,
 };
 use super::{check_run, files_of, run_into};
 use mp_outside::MemSink;
@@ -25,6 +25,11 @@ const OF_PERM: u64 = 3 + 1;
 
 const OF_GRAPH: u64 = 25 + 1;
 
+// Of the graph without tasks there are 33 bytes, of its plan 43.
+const OF_IDLE: u64 = 11 + 1;
+
+const OF_BOUNDED: u64 = 15 + 1;
+
 // Runs, the loads of each, and all that it prints.
 #[rattlefmt::skip]
 const RUNS: &[(&str, u64, &str)] = &[
@@ -34,6 +39,8 @@ const RUNS: &[(&str, u64, &str)] = &[
     (SEGMENTS, OF_TREE, OF_FIVE),
     (FRONTS, OF_MATRIX + OF_PERM, ABREAST),
     (REDUCE, OF_GRAPH, WORKFLOW),
+    (BOUND, OF_IDLE, "bound 12\nneed 0\nend\n"),
+    (CHECK_GRAPH, OF_IDLE + OF_BOUNDED, "yes 12 least\n"),
 ];
 
 // What a run without faults prints. A plan may be any of least peak: whether it is one is tested elsewhere.

@@ -85,12 +85,25 @@ fn check_meeting<R: Threads + Sync + Abort>(
 
 const TREE_AND_PLAN: Texts = &[("t", FIVE), ("p", PLAN)];
 
+// The tree as a graph, and one of its leaves starts last.
+#[rattlefmt::skip]
+const GRAPH_AND_PLAN: Texts = &[
+    ("g", "graph 2\ntasks 5\n9 0 1\n0 0 1\n9 0 1\n0 0 1\n0 0 1\nitems 5\n1 1 2\n5 2 5\n1 3 4\n5 4 5\n0 5\nend\n"),
+    ("p", "plan 3\norder 5\n1\n3\n2\n4\n5\npeak 11\nbound 11\nlast 2\nbase 2\n1 1\n2 1\nblocker 1 4\n1 0\n2 0\n3 1\n4 1\nblocker 3 0\nend\n"),
+];
+
 const MATRIX_AND_ORDER: Texts = &[("m", ARROW), ("p", TURNED)];
 
 #[test]
 fn two_chunks_are_judged_at_once(rt: HostRuntime) -> Result<(), Fail> {
     let run = "check --tree t --plan p --workers 2";
     check_meeting(&rt, rt.alloc(), run, TREE_AND_PLAN, "yes 11\n")
+}
+
+#[test]
+fn two_blockers_are_judged_at_once(rt: HostRuntime) -> Result<(), Fail> {
+    let run = "check --graph g --plan p --workers 2";
+    check_meeting(&rt, rt.alloc(), run, GRAPH_AND_PLAN, "yes 11 least\n")
 }
 
 // In the second round both have come, so its one front passes.

@@ -7,9 +7,11 @@ use Rattle.shared_graph_files.specs.EitherVersion.{StatesAs}
 use Rattle.reports.specs.Reduce.{are_second}
 use Rattle.reports.specs.Promises.{done_answer}
 use Rattle.requests.specs.Request.{Request, replay, tree, post, check, planning, simulate, demo, upgrade, spill, segments, fronts, reduce}
+use Rattle.requests.specs.Request.{check_graph, bounding}
 use Rattle.judging.specs.declared.status.Status.TheVariants.{Done}
 use Rattle.reports.proofs.RunLemmas.{report_when_done, report_of_rest}
 use Rattle.reports.proofs.SoundAnswer.{certified, best, simulated}
+use Rattle.reports.proofs.BoundLemmas.{bounded, bound_certified}
 use Rattle.reports.proofs.UpgradeLemmas.{upgraded}
 use Rattle.reports.proofs.SpillLemmas.{spilled_tasks}
 use Rattle.reports.proofs.StairsLemmas.{reached}
@@ -34,6 +36,9 @@ returns c (check input plan workers) texts answer possible is = λ done.
     c.tree_term.ensures.terms c.tree_term.ensures.system
     c.read_law.ensures c.terms_law.ensures.denotes c.accepted_law.ensures.own c.accepted_law.ensures.renamed
     input texts answer (report_when_done (check input plan workers) texts answer is done) done
+returns c (check_graph graph plan workers) texts answer possible is = λ done.
+    bound_certified c.read_law-3.ensures c.accepted_law-2.ensures.bound c.accepted_law-2.ensures.least
+    texts answer (report_when_done (check_graph graph plan workers) texts answer is done) done
 returns c (planning input format) texts answer possible is = λ done.
     best (λ i ts nodes of_tree. (c.one_input.ensures.tree i ts nodes nodes of_tree of_tree).1)
     c.tree_term.ensures.terms c.tree_term.ensures.system
@@ -84,3 +89,6 @@ returns c (reduce name) texts answer possible is =
           (c.names_law-2.ensures.within system names (term_of positions) is term);
     }) texts answer (are_second texts) refl
     (report_when_done (reduce name) texts answer is) (report_of_rest (reduce name) texts answer is)
+returns c (bounding graph order effort) texts answer possible is = λ done.
+    bounded c.read_law-3.ensures c.evidence_law.ensures.bound order texts answer
+    (report_when_done (bounding graph order effort) texts answer is done) done

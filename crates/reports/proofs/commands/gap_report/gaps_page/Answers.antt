@@ -1,4 +1,4 @@
-use Rattle.std.proofs.Common.{◌≡◌, ◌∙◌, ℕ, List, [], ◌∷◌, ◌++◌, ap, sym, map, length, decimal, codes}
+use Rattle.std.proofs.Common.{◌∙◌, ℕ, List, [], ◌∷◌, ◌++◌, ap, sym, map, length, decimal, codes}
 use Rattle.mp_text.specs.Report.{line_text, text_of_lines}
 use Rattle.reports.specs.Spill.{spilled_items}
 use Rattle.reports.specs.SpilledGaps.{spilled_gaps, gap_line, gap_names}

@@ -1,4 +1,4 @@
-use Rattle.std.proofs.Common.{◌≡◌, ◌∙◌, ◌+◌, ◌<◌, ◌++◌, List, ap, sym, length, map, arith}
+use Rattle.std.proofs.Common.{◌∙◌, ◌+◌, ◌<◌, ◌++◌, List, ap, sym, length, map, arith}
 use Rattle.shared_systems.specs.Shared.{shared_item_at}
 use Rattle.spill_plan.specs.Gaps.{gaps_of_item}
 use Rattle.reports.specs.declared.commands.gap_report.GapName.{GapName}
