@@ -305,7 +305,7 @@ class Facts:
             said[option] = f"1 to {self.most[limit]}"
         said["workers"] = f"1 to {self.most[part_of(part_of(code, 'pub fn workers_of', chr(10) + '}'), 'u64::from(MOST_', ')')]}"
         said["amalgamate"] = f"0 to {self.most_zeros()}"
-        return {**said, **{option: f"0 to {2**64 - 1}" for option in re.findall(r'number_given\(line\.value\("(\w+)"\)\)', code)}}
+        return {**said, **{option: f"0 to {2**64 - 1}" for option in re.findall(r'(?:number_given|effort_of)\(line\.value\("(\w+)"\)\)', code)}}
 
     def commands(self) -> Iterator[Finding]:
         place, table = "tools/commands.py", self.module("commands")

@@ -99,11 +99,12 @@ COMMANDS: Tuple[Command, ...] = (
     Command(
         name="check",
         purpose="the verdict on a plan, whoever made it",
-        usage="INPUT --plan FILE [--workers W]",
-        options=(*INPUT, JUDGED, Option("workers", "W", "how many threads share the work, 1 to 4096; 1 without it", 1, 4096)),
-        one_of=("tree|workflow|matrix", "plan"),
+        usage="(INPUT | --graph FILE) --plan FILE [--workers W]",
+        options=(*INPUT, GRAPH, JUDGED, Option("workers", "W", "how many threads share the work, 1 to 4096; 1 without it", 1, 4096)),
+        one_of=("tree|workflow|matrix|graph", "plan"),
         only_with=OF_A_MATRIX,
-        prints="`yes PEAK`, or the first objection. The options of the input have to be those that the plan was made with",
+        prints="`yes PEAK`, or the first objection. The options of the input have to be those that the plan was made with. "
+        "Of a task graph, whose plan has a bound (version 3), `yes PEAK least` or `yes PEAK above BOUND`",
         statuses={1: "the plan is not accepted"},
         example=("check --tree examples/five.tree --plan examples/five.plan", "yes 11"),
     ),
@@ -204,6 +205,21 @@ COMMANDS: Tuple[Command, ...] = (
         prints="a workflow file, with a line `# K NAME` for each task: task K is task NAME of the graph, or a join if there is none; or the arcs, or the item, in the way",
         statuses={9: "the graph is not series-parallel, or an item has several readers and none after all the others"},
         example=("reduce --graph examples/four.graph | tail -n 4", "# 1 3\n# 2 2\n# 3 4\n# 4 1"),
+    ),
+    Command(
+        name="bound",
+        purpose="what no order of a task graph has a peak below",
+        usage="--graph FILE [--order FILE] [--effort E]",
+        options=(
+            GRAPH,
+            Option("order", FILE, "an order file: its peak is told too"),
+            Option("effort", "E", "how many steps the search may take, some 60 million a second; 1,000,000,000 without it"),
+        ),
+        one_of=("graph",),
+        only_with=(),
+        prints="`bound L` with the evidence for it, as in a plan file of version 3, `end`; beside an order `peak P` before them",
+        statuses={1: NO_TRAVERSAL},
+        example=("bound --graph examples/shared.graph --order examples/shared.order | head -n 2", "peak 16\nbound 16"),
     ),
     Command(
         name="upgrade",

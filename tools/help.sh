@@ -1,8 +1,8 @@
 # Sourced by tools/terminal.sh, and by nothing else. Made by tools/make_help.py of tools/commands.py.
-commands="plan check replay post tree fronts simulate spill segments reduce upgrade demo"
+commands="plan check replay post tree fronts simulate spill segments reduce bound upgrade demo"
 declare -A usage_of=(
     [plan]='INPUT [--print text|json]'
-    [check]='INPUT --plan FILE [--workers W]'
+    [check]='(INPUT | --graph FILE) --plan FILE [--workers W]'
     [replay]='(INPUT | --graph FILE) (--order FILE | --plan FILE)'
     [post]=TREE
     [tree]=MATRIX
@@ -11,12 +11,13 @@ declare -A usage_of=(
     [spill]='(INPUT | --graph FILE) (--order FILE | --plan FILE) --bound B'
     [segments]=INPUT
     [reduce]='--graph FILE'
+    [bound]='--graph FILE [--order FILE] [--effort E]'
     [upgrade]='(--tree FILE | --workflow FILE | --graph FILE | --plan FILE [--priority FILE])'
     [demo]='(--seed S --tasks N [--kind tree|workflow] | --kind grid --rows R --cols C)'
 )
 declare -A options_of=(
     [plan]='tree workflow matrix perm ordering shape amalgamate inplace print'
-    [check]='tree workflow matrix perm ordering shape amalgamate inplace plan workers'
+    [check]='tree workflow matrix perm ordering shape amalgamate inplace graph plan workers'
     [replay]='tree workflow matrix perm ordering shape amalgamate inplace graph order plan'
     [post]='tree matrix perm ordering shape amalgamate inplace'
     [tree]='matrix perm ordering shape amalgamate inplace'
@@ -25,12 +26,13 @@ declare -A options_of=(
     [spill]='tree workflow matrix perm ordering shape amalgamate inplace graph order plan bound'
     [segments]='tree workflow matrix perm ordering shape amalgamate inplace'
     [reduce]=graph
+    [bound]='graph order effort'
     [upgrade]='tree workflow graph plan priority'
     [demo]='kind seed tasks rows cols'
 )
 declare -A one_of=(
     [plan]='tree|workflow|matrix'
-    [check]='tree|workflow|matrix plan'
+    [check]='tree|workflow|matrix|graph plan'
     [replay]='tree|workflow|matrix|graph order|plan'
     [post]='tree|matrix'
     [tree]=matrix
@@ -39,6 +41,7 @@ declare -A one_of=(
     [spill]='tree|workflow|matrix|graph order|plan bound'
     [segments]='tree|workflow|matrix'
     [reduce]=graph
+    [bound]=graph
     [upgrade]='tree|workflow|graph|plan'
     [demo]='seed|rows'
 )
@@ -53,6 +56,7 @@ declare -A only_with=(
     [spill]='perm:matrix ordering:matrix shape:matrix amalgamate:matrix inplace:matrix'
     [segments]='perm:matrix ordering:matrix shape:matrix amalgamate:matrix inplace:matrix'
     [reduce]=''
+    [bound]=''
     [upgrade]=priority:plan
     [demo]='kind=grid:rows rows:kind=grid cols:rows rows:cols tasks:seed seed:tasks'
 )
@@ -66,12 +70,13 @@ declare -A value_of=(
     [amalgamate]=Z
     [inplace]='no|yes'
     [print]='text|json'
+    [graph]=FILE
     [plan]=FILE
     [workers]=W
-    [graph]=FILE
     [order]=FILE
     [bound]=B
     [priority]=FILE
+    [effort]=E
     [kind]='tree|workflow|grid'
     [seed]=S
     [tasks]=N
@@ -82,6 +87,7 @@ declare -A range_of=(
     [amalgamate]='0 1099511627776'
     [workers]='1 4096'
     [bound]='0 18446744073709551615'
+    [effort]='0 18446744073709551615'
     [seed]='0 18446744073709551615'
     [tasks]='1 1000000'
     [rows]='1 50000'
@@ -129,7 +135,7 @@ END
             cat <<'END'
 memplan check: the verdict on a plan, whoever made it
 
-usage: memplan check INPUT --plan FILE [--workers W]
+usage: memplan check (INPUT | --graph FILE) --plan FILE [--workers W]
 INPUT is TREE, or --workflow FILE
 TREE is --tree FILE, or MATRIX
 MATRIX is --matrix FILE, with at most one of --perm and --ordering, and any of
@@ -151,12 +157,16 @@ the others
                              to 2^40; none without it
   --inplace no|yes           with yes a front is assembled in the place of its
                              greatest child's block
+  --graph FILE               a task graph file: tasks, and the data that go
+                             from one to another
   --plan FILE                the plan file that is judged
   --workers W                how many threads share the work, 1 to 4096; 1
                              without it
 
 Prints yes PEAK, or the first objection. The options of the input have to be
-those that the plan was made with. Status 1: the plan is not accepted.
+those that the plan was made with. Of a task graph, whose plan has a bound
+(version 3), yes PEAK least or yes PEAK above BOUND. Status 1: the plan is not
+accepted.
 
 $ memplan check --tree examples/five.tree --plan examples/five.plan
 yes 11
@@ -456,6 +466,26 @@ $ memplan reduce --graph examples/four.graph | tail -n 4
 # 4 1
 END
             ;;
+        bound)
+            cat <<'END'
+memplan bound: what no order of a task graph has a peak below
+
+usage: memplan bound --graph FILE [--order FILE] [--effort E]
+
+  --graph FILE  a task graph file: tasks, and the data that go from one to
+                another
+  --order FILE  an order file: its peak is told too
+  --effort E    how many steps the search may take, some 60 million a second;
+                1,000,000,000 without it
+
+Prints bound L with the evidence for it, as in a plan file of version 3, end;
+beside an order peak P before them. Status 1: the order is no traversal.
+
+$ memplan bound --graph examples/shared.graph --order examples/shared.order | head -n 2
+peak 16
+bound 16
+END
+            ;;
         upgrade)
             cat <<'END'
 memplan upgrade: a file as version 2 of its format
@@ -525,6 +555,7 @@ usage: memplan COMMAND OPTIONS
   spill     the least volume that must go to disk within a bound
   segments  how low memory can come within each bound
   reduce    the series-parallel workflow of a task graph
+  bound     what no order of a task graph has a peak below
   upgrade   a file as version 2 of its format
   demo      an input made from a number, planned and checked
 

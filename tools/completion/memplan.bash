@@ -12,16 +12,16 @@ _memplan() {
         --inplace) words="no yes" ;;
         --print) words="text json" ;;
         --kind) words="tree workflow grid" ;;
-        --tree | --workflow | --matrix | --perm | --plan | --graph | --order | --priority)
+        --tree | --workflow | --matrix | --perm | --graph | --plan | --order | --priority)
             compopt -o filenames 2>/dev/null
             mapfile -t COMPREPLY < <(compgen -f -- "$word")
             return
             ;;
-        --amalgamate | --workers | --bound | --seed | --tasks | --rows | --cols) return ;;
+        --amalgamate | --workers | --bound | --effort | --seed | --tasks | --rows | --cols) return ;;
         *)
             case ${COMP_WORDS[1]} in
                 plan) words="--tree --workflow --matrix --perm --ordering --shape --amalgamate --inplace --print" ;;
-                check) words="--tree --workflow --matrix --perm --ordering --shape --amalgamate --inplace --plan --workers" ;;
+                check) words="--tree --workflow --matrix --perm --ordering --shape --amalgamate --inplace --graph --plan --workers" ;;
                 replay) words="--tree --workflow --matrix --perm --ordering --shape --amalgamate --inplace --graph --order --plan" ;;
                 post) words="--tree --matrix --perm --ordering --shape --amalgamate --inplace" ;;
                 tree) words="--matrix --perm --ordering --shape --amalgamate --inplace" ;;
@@ -30,10 +30,11 @@ _memplan() {
                 spill) words="--tree --workflow --matrix --perm --ordering --shape --amalgamate --inplace --graph --order --plan --bound" ;;
                 segments) words="--tree --workflow --matrix --perm --ordering --shape --amalgamate --inplace" ;;
                 reduce) words="--graph" ;;
+                bound) words="--graph --order --effort" ;;
                 upgrade) words="--tree --workflow --graph --plan --priority" ;;
                 demo) words="--kind --seed --tasks --rows --cols" ;;
             esac
-            [ "$COMP_CWORD" -gt 1 ] || words="plan check replay post tree fronts simulate spill segments reduce upgrade demo"
+            [ "$COMP_CWORD" -gt 1 ] || words="plan check replay post tree fronts simulate spill segments reduce bound upgrade demo"
             # each option once
             for option in "${COMP_WORDS[@]:2}"; do
                 [ "$option" = "$word" ] || words=" $words " words=${words/ $option / }

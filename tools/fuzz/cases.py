@@ -2,9 +2,10 @@
 import random
 from collections.abc import Callable
 from pathlib import Path
-from typing import NamedTuple
+from typing import NamedTuple, Optional
 
 from bench import BOUND, USAGE, Bench
+from evidence import BoundedPlan, evidence_of, text_of
 from models import Tasks, rows, shared_system_of_graph, system_of_tree, system_of_workflow
 from random_files import (
     changed,
@@ -102,14 +103,28 @@ def order_text(draw: random.Random, order: list[int]) -> bytes:
 
 
 def plan_text(draw: random.Random, bench: Bench, setting: Setting) -> bytes:
-    """The plan that the program makes of an input, in part with other numbers; or a random one, or one of an example."""
+    """The plan that the program makes of an input, in part with other numbers; or a random one, or one of an example. Of a task graph an order with the
+    bound that the program finds."""
     if draw.random() < 0.15:
         return example(draw, "plan")
     bench.put(setting.files)
-    made = bench.printed(["plan", *(f"{name}={value}" for name, value in setting.options)])
+    if "g" in setting.files:
+        made = bounded_plan_text(bench, setting)
+    else:
+        made = bench.printed(["plan", *(f"{name}={value}" for name, value in setting.options)])
     if made is None or draw.random() < 0.2:
         return random_plan(draw, setting.order, draw.randrange(20))
     return made if draw.random() < 0.6 else changed_tokens(draw, made)
+
+
+def bounded_plan_text(bench: Bench, setting: Setting) -> Optional[bytes]:
+    """An order of a task graph with the bound that the program finds."""
+    bench.put({**setting.files, "o": "".join(f"{task}\n" for task in setting.order).encode()})
+    told = bench.printed(["bound", "--graph=g", "--order=o"])
+    if told is None:
+        return None
+    (_, peak), (_, bound), *lines = rows(told)
+    return text_of(BoundedPlan(setting.order, int(peak), int(bound), *evidence_of(lines)))
 
 
 def replay_options(draw: random.Random, bench: Bench, setting: Setting) -> Options:
@@ -169,6 +184,14 @@ def check_options(draw: random.Random, bench: Bench, setting: Setting) -> Option
     return [("--plan", "p")] + ([("--workers", draw.choice(["1", "2", "3", "13", "4096"]))] if draw.random() < 0.5 else [])
 
 
+def bound_options(draw: random.Random, _bench: Bench, setting: Setting) -> Options:
+    options = [("--effort", draw.choice(["0", "1", "1000", "1000000", str(2**64 - 1)]))] if draw.random() < 0.5 else []
+    if draw.random() < 0.5:
+        setting.files["o"] = order_text(draw, setting.order)
+        options.append(("--order", "o"))
+    return options
+
+
 def plan_options(draw: random.Random, _bench: Bench, _setting: Setting) -> Options:
     return [("--print", draw.choice(["text", "json"]))] if draw.random() < 0.3 else []
 
@@ -210,12 +233,13 @@ INPUTS_AND_GRAPHS = (*ALL_INPUTS, "shared graph", "shared graph")
 COMMANDS = {
     "replay": Command(INPUTS_AND_GRAPHS, replay_options),
     "plan": Command(ALL_INPUTS, plan_options),
-    "check": Command(ALL_INPUTS, check_options),
+    "check": Command((*ALL_INPUTS, "shared graph", "shared graph"), check_options),
     "simulate": Command(INPUTS_AND_GRAPHS, simulate_options),
     "spill": Command(INPUTS_AND_GRAPHS, spill_options),
     "fronts": Command(("matrix",), fronts_options),
     "segments": Command(ALL_INPUTS, no_options),
     "reduce": Command(("graph", "shared graph"), no_options),
+    "bound": Command(("shared graph",), bound_options),
     "tree": Command(("matrix",), no_options),
     "post": Command(("tree", "tree", "matrix"), no_options),
     "demo": Command((), demo_options),
@@ -223,7 +247,12 @@ COMMANDS = {
 }
 
 # Words of commands that the program may not know yet: it is then not asked for them.
-PROBES = {"upgrade": ["upgrade", "--tree=t"], "fronts": ["fronts", "--matrix=m", "--bound=0", "--workers=1"], "reduce": ["reduce", "--graph=g"]}
+PROBES = {
+    "upgrade": ["upgrade", "--tree=t"],
+    "fronts": ["fronts", "--matrix=m", "--bound=0", "--workers=1"],
+    "reduce": ["reduce", "--graph=g"],
+    "bound": ["bound", "--graph=g"],
+}
 
 
 def known_commands(bench: Bench) -> list[str]:

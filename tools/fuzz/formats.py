@@ -341,6 +341,60 @@ def read_claim(page: Page, before: int) -> int:
     return position
 
 
+def read_bounded_plan(text: bytes) -> int:
+    """The length of the order of a plan with a bound."""
+    page = Page("plan", text, "no-end")
+    page.test(page.go_on() == [b"plan", b"3"], "header")
+    count = page.section(b"order", "section")
+    page.limit(count <= MOST_TASKS, "tasks")
+    for _ in range(count):
+        page.test(len(page.go_on()) == 1, "order")
+        page.test(page.number_at(0) < 2**32, "number")
+    page.test(page.section(b"peak", "section") <= MOST_TOTAL, "number")
+    page.test(page.section(b"bound", "section") <= MOST_TOTAL, "number")
+    read_evidence(page)
+    page.test(page.go_on() == [b"end"], "no-end")
+    page.end("no-end")
+    return count
+
+
+def read_evidence(page: Page) -> None:
+    page.go_on()
+    page.test(len(page.tokens) == 2 and page.tokens[0] in (b"need", b"first", b"last", b"claims"), "section")
+    word, stated = page.tokens[0], page.number_at(1)
+    if word == b"need":
+        page.test(stated < 2**32, "number")
+        return
+    page.limit(stated <= (MOST_POSITIONS if word == b"claims" else MOST_TASKS), "positions" if word == b"claims" else "tasks")
+    if word == b"claims":
+        before = 0
+        for _ in range(stated):
+            before = read_claim(page, before)
+        return
+    amounts = page.section(b"base", "section")
+    page.limit(amounts <= MOST_POSITIONS, "positions")
+    read_amounts(page, amounts)
+    for _ in range(stated):
+        page.go_on()
+        page.test(len(page.tokens) == 3 and page.tokens[0] == b"blocker", "section")
+        task, own = page.number_at(1), page.number_at(2)
+        page.test(task < 2**32, "number")
+        amounts += own
+        page.limit(amounts <= MOST_POSITIONS, "positions")
+        read_amounts(page, own)
+
+
+def read_amounts(page: Page, count: int) -> None:
+    before = 0
+    for _ in range(count):
+        page.test(len(page.go_on()) == 2, "amount")
+        place = page.number_at(0)
+        page.test(place < 2**32, "number")
+        page.test(re.fullmatch(rb"-?[0-9]+", page.tokens[1]) is not None and abs(int(page.tokens[1])) <= MOST_TOTAL, "number")
+        page.test(place > before, "amount")
+        before = place
+
+
 def refusal_of(read: Callable[[], int]) -> tuple[int, Optional[str]]:
     """What a reader counts, and the rest of the line after `refused` where it refuses."""
     try:
@@ -503,12 +557,13 @@ WITHOUT_FRONT_OPTIONS = {"fronts"}
 COMMANDS: dict[str, tuple[set[str], list[set[str]], set[str]]] = {
     "replay": ({"tree", "workflow", "matrix", "graph"}, [{"order", "plan"}], set()),
     "plan": ({"tree", "workflow", "matrix"}, [], {"print"}),
-    "check": ({"tree", "workflow", "matrix"}, [{"plan"}], {"workers"}),
+    "check": ({"tree", "workflow", "matrix", "graph"}, [{"plan"}], {"workers"}),
     "simulate": ({"tree", "workflow", "matrix", "graph"}, [{"order", "plan"}, {"bound"}, {"workers"}], {"priority"}),
     "spill": ({"tree", "workflow", "matrix", "graph"}, [{"order", "plan"}, {"bound"}], set()),
     "fronts": ({"matrix"}, [{"bound"}, {"workers"}], {"perm", "ordering"}),
     "segments": ({"tree", "workflow", "matrix"}, [], set()),
     "reduce": ({"graph"}, [], set()),
+    "bound": ({"graph"}, [], {"order", "effort"}),
     "tree": ({"matrix"}, [], set()),
     "post": ({"tree", "matrix"}, [], set()),
     "demo": (set(), [], {"kind", "seed", "tasks", "rows", "cols"}),
@@ -528,6 +583,7 @@ RANGES = {
     "bound": (0, 2**64 - 1),
     "workers": (1, MOST_WORKERS),
     "seed": (0, 2**64 - 1),
+    "effort": (0, 2**64 - 1),
     "tasks": (1, MOST_TASKS),
     "rows": (1, MOST_MINDEG),
     "cols": (1, MOST_MINDEG),

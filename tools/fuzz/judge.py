@@ -26,6 +26,8 @@ from bench import (
     failed,
 )
 from cases import Case
+from evidence import BoundedPlan, bounded_plan_of, evidence_of
+from evidence import Judge as EvidenceJudge
 from models import (
     SharedSystem,
     Simulation,
@@ -124,7 +126,10 @@ class Judge:
         if self.ending.status == WORKING_SET:
             return self.words[0] == "spill" and bool(re.fullmatch(f"refused working-set {count} {count} {count}\n", self.text))
         claim = f"no peak {count} {count}|no root {count}|no claim {count} (data|series|par|outside)"
-        lines = {"replay": order, "simulate": order, "spill": order, "check": f"{order}|{claim}"}
+        if "graph" in self.options:
+            test = "task|rising|amounts|sizes|open|level"
+            claim = f"{claim}|no need (task|low)|no set (empty|base)|no blocker {count} ({test})|no term"
+        lines = {"replay": order, "simulate": order, "spill": order, "bound": order, "check": f"{order}|{claim}"}
         return self.words[0] in lines and bool(re.fullmatch(f"({lines[self.words[0]]})\n", self.text))
 
     # ---- refusals
@@ -164,9 +169,12 @@ class Judge:
             "workflow": formats.read_workflow,
             "graph": formats.read_graph_of_either_version,
             "order": formats.read_order,
-            "plan": formats.read_plan,
+            "plan": formats.read_bounded_plan if self.is_check_of_graph() else formats.read_plan,
         }
         return formats.refusal_of(partial(readers[file], text))
+
+    def is_check_of_graph(self) -> bool:
+        return self.words[0] == "check" and "graph" in self.options
 
     # ---- reports
 
@@ -267,7 +275,31 @@ class Judge:
         if self.bench.run(["check", *words, "--plan=made"]) != Ending(DONE, f"yes {plan.peak}\n".encode(), b""):
             yield "check does not say yes to the plan"
 
+    def bound_ends(self) -> Iterator[str]:
+        system, head = shared_system_of_graph(self.file("graph")), ""
+        if "order" in self.options:
+            order = numbers(self.file("order"))
+            if fault := system.fault(order):
+                yield from self.expect(fault)
+                return
+            head = f"peak {system.peak(order)}\n"
+        found = re.fullmatch(f"{head}bound ([0-9]+)\n(.*)end\n", self.text, re.DOTALL)
+        if not found:
+            yield "this is no bound of the grammar"
+            return
+        bound, lines = int(found[1]), [line.split() for line in [*found[2].splitlines(), "end"]]
+        if said := EvidenceJudge(system).objection(BoundedPlan([], 0, bound, *evidence_of(lines))):
+            yield f"the evidence is objected to: {said}"
+        needs = [system.memory(0), *map(system.own_need, range(1, system.count + 1))]
+        if bound < max(needs) or (system.count <= FEW and bound > min(map(system.peak, system.traversals()))):
+            yield f"a bound of {bound}"
+
     def check_ends(self) -> Iterator[str]:
+        if self.is_check_of_graph():
+            plan = bounded_plan_of(self.file("plan"))
+            if plan.word != "claims":
+                yield from self.expect(EvidenceJudge(shared_system_of_graph(self.file("graph"))).verdict(plan))
+            return
         plan, system = plan_of(self.file("plan")), system_of(self.bench, self.options)
         yield from self.expect(objection(system, term_of(self.bench, self.options), plan) or f"yes {plan.peak}\n")
         if self.ending.status == DONE and plan.peak != plan_of(self.bench.run(["plan", *input_words(self.options)]).report).peak:

@@ -48,6 +48,9 @@ reduce --graph four.graph
 reduce --graph bridge.graph
 reduce --graph fork.graph
 reduce --graph shared.graph
+bound --graph shared.graph
+bound --graph shared.graph --order shared.order
+check --graph shared.graph --plan shared.plan
 fronts --matrix arrow.mtx --perm arrow.perm --bound 4 --workers 2
 fronts --matrix grid.mtx --ordering mindeg --bound 9 --workers 1
 segments --tree five.tree

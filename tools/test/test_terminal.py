@@ -114,7 +114,7 @@ WRONG: List[Tuple[str, List[str]]] = [
     ("plan --tre five.tree", ["there is no option --tre of plan; do you mean --tree?"]),
     ("plan --martix arrow.mtx", ["there is no option --martix of plan; do you mean --matrix?"]),
     ("plan -tree five.tree", ["-tree: an option begins with two hyphens, as --tree"]),
-    (f"plan {GRAPH}", ["--graph is no option of plan, but of replay, simulate, spill, reduce, upgrade"]),
+    (f"plan {GRAPH}", ["--graph is no option of plan, but of check, replay, simulate, spill, reduce, bound, upgrade"]),
     (f"post {WORKFLOW}", ["--workflow is no option of post, but of plan, check"]),
     (f"tree {TREE}", ["--tree is no option of tree, but of plan"]),
     ("plan --tree", ["--tree has no value; it is --tree FILE"]),

@@ -1,0 +1,216 @@
+#!/usr/bin/env python3
+"""Asks `bound` for a bound of random small task graphs, and `check` for its verdict on plans with bounds, and compares both with brute force.
+
+usage: bounds.py PROGRAM [--graphs N] [--first N] [--seed S] [--jobs J] [--keep FOLDER]      (PROGRAM is crates/memplan/out/memplan)
+
+A graph has at most seven tasks and some items, each with any number of readers; the seed and the number of a graph make it. Of each it asks:
+
+- `bound` prints a number that is at most the least peak of all orders, and at least what is there at the start and what each task reads and needs;
+  the plain judge of evidence.py has nothing against the evidence; beside an order it prints its peak, or its first fault;
+- `check` says `least` of an order whose peak is that number, and `above` of any other, with that evidence;
+- of plans whose numbers, evidence or order are changed it says what the plain judge says; and a plan that it accepts has a bound that is at most the
+  least peak;
+- a file that is changed in a few bytes, tokens or lines is refused as the plain reader refuses it, or judged as what it says.
+
+It prints how many graphs and orders were tried, and for how many the bound is the least peak. A graph that is wrong is kept in FOLDER, and the status
+is then 1.
+"""
+import argparse
+import json
+import multiprocessing
+import random
+import subprocess
+import sys
+import tempfile
+from collections.abc import Iterator
+from pathlib import Path
+from typing import NamedTuple, Optional
+
+import formats
+from bench import DONE, FORMAT, LIMIT, NO, SECONDS, Bench, Ending
+from evidence import Blocker, BoundedPlan, Judge, bounded_plan_of, evidence_of, text_of
+from models import rows, shared_system_of_graph
+from random_files import changed, listed, random_forked_graph, random_layered_graph, random_shared_graph, random_traversal
+from shared import no_traversal
+
+
+class Result(NamedTuple):
+    """A graph that was tried: whether the bound is the least peak, how many orders there are, the runs that it took, and what was wrong."""
+
+    is_met: bool
+    orders: int
+    runs: int
+    wrongs: list[str]
+
+
+class Trial:
+    """A random graph, and what is asked of it."""
+
+    def __init__(self, draw: random.Random, bench: Bench) -> None:
+        self.draw, self.bench = draw, bench
+        self.text = draw.choice([random_shared_graph, random_forked_graph, random_layered_graph])(draw)
+        self.system = shared_system_of_graph(self.text)
+        self.judge = Judge(self.system)
+        self.orders = {order: self.system.peak(order) for order in self.system.traversals()}
+        self.least = min(self.orders.values())
+        self.bound: Optional[int] = None
+
+    def wrongs(self) -> Iterator[str]:
+        self.bench.write("g", self.text)
+        order = random_traversal(self.draw, self.system)
+        found = self.bench.run(["bound", "--graph", "g", *self.draw.choice([[], ["--effort", str(self.draw.choice([0, 1, 100, 10**4, 10**6]))]])])
+        yield from self.wrongs_of_bound(found, b"")
+        self.bench.write("o", listed(self.draw, order))
+        beside = self.bench.run(["bound", "--graph", "g", "--order", "o"])
+        head = f"peak {self.system.peak(order)}\n".encode()
+        yield from self.wrongs_of_bound(beside, head)
+        other = no_traversal(self.draw, self.system)
+        self.bench.write("o", listed(self.draw, other))
+        refused = self.bench.run(["bound", "--graph", "g", "--order", "o"])
+        if refused != Ending(NO, self.system.fault(other).encode(), b""):
+            yield f"bound beside {other}: {refused}"
+        if beside.status == DONE and beside.report.startswith(head):
+            lines = rows(beside.report)
+            plan = BoundedPlan(order, self.system.peak(order), int(lines[1][1]), *evidence_of(lines[2:]))
+            self.bound = plan.bound
+            for tried in self.plans(plan):
+                yield from self.wrongs_of_check(text_of(tried))
+            yield from self.wrongs_of_check(changed(self.draw, text_of(plan)))
+
+    def wrongs_of_bound(self, found: Ending, head: bytes) -> Iterator[str]:
+        lines = rows(found.report)[1 if head else 0 :]
+        if found.status != DONE or not found.report.startswith(head) or lines[-1] != ["end"]:
+            yield f"bound: {found}"
+            return
+        bound = int(lines[0][1])
+        needs = [self.system.memory(0), *map(self.system.own_need, range(1, self.system.count + 1))]
+        if not max(needs) <= bound <= self.least:
+            yield f"bound {bound}, where the least peak is {self.least} and a task needs {max(needs)}"
+        if objection := self.judge.objection(BoundedPlan([], 0, bound, *evidence_of(lines[1:]))):
+            yield f"the evidence for {bound} is objected to: {objection}"
+
+    def plans(self, plan: BoundedPlan) -> Iterator[BoundedPlan]:
+        """The plan, one of least peak, and others that are changed."""
+        draw = self.draw
+        best = min(self.orders, key=self.orders.__getitem__)
+        yield plan
+        yield plan._replace(order=list(best), peak=self.least)
+        yield plan._replace(peak=plan.peak + draw.choice([-1, 1]) if plan.peak else 1)
+        yield plan._replace(bound=max(0, plan.bound + draw.choice([-1, 1, 1, 1, 2])))
+        yield plan._replace(order=no_traversal(draw, self.system))
+        yield plan._replace(word="need", task=draw.randint(0, self.system.count + 1), bound=draw.randint(0, self.least + 1), base=[], blockers=[])
+        if plan.word != "need":
+            for _ in range(4):
+                yield self.changed_set(plan)
+
+    def changed_set(self, plan: BoundedPlan) -> BoundedPlan:
+        draw = self.draw
+        kind = draw.randrange(6)
+        if kind == 0:
+            return plan._replace(word="first" if plan.word == "last" else "last")
+        if kind == 1:
+            return plan._replace(blockers=[blocker for blocker in plan.blockers if draw.random() < 0.6])
+        if kind == 2:
+            return plan._replace(base=self.changed_amounts(plan.base))
+        if kind == 3:
+            return plan._replace(blockers=[Blocker(blocker.task, self.changed_amounts(blocker.amounts)) for blocker in plan.blockers])
+        if kind == 4:
+            more = Blocker(draw.randint(0, self.system.count + 1), [])
+            return plan._replace(blockers=sorted([*plan.blockers, more]) if draw.random() < 0.8 else [*plan.blockers, more])
+        return plan._replace(blockers=draw.sample(plan.blockers, len(plan.blockers)))
+
+    def changed_amounts(self, amounts: list[tuple[int, int]]) -> list[tuple[int, int]]:
+        draw = self.draw
+        told = dict(amounts)
+        for _ in range(draw.randint(1, 2)):
+            place = draw.randint(1, len(self.judge.uses) + (draw.random() < 0.05))
+            told[place] = told.get(place, 0) + draw.choice([-2, -1, 1, 2])
+        return sorted(told.items())
+
+    def wrongs_of_check(self, text: bytes) -> Iterator[str]:
+        self.bench.write("p", text)
+        found = self.bench.run(["check", "--graph", "g", "--plan", "p", *self.draw.choice([[], ["--workers", str(self.draw.randint(1, 4))]])])
+        _, refusal = formats.refusal_of(lambda: formats.read_bounded_plan(text))
+        if refusal:
+            wanted = Ending(FORMAT if refusal.startswith("format") else LIMIT, f"refused {refusal}\n".encode(), b"")
+        else:
+            verdict = self.verdict(text)
+            if verdict is None:
+                return
+            wanted = Ending(DONE if verdict.startswith("yes") else NO, verdict.encode(), b"")
+        if found != wanted:
+            yield f"check: {found} in place of {wanted} of {text!r}"
+        elif found.status == DONE and bounded_plan_of(text).bound > self.least:
+            yield f"a bound above the least peak {self.least} is accepted: {text!r}"
+
+    def verdict(self, text: bytes) -> Optional[str]:
+        """The plain judge's, but for claims, which it knows nothing of."""
+        plan = bounded_plan_of(text)
+        return None if plan.word == "claims" else self.judge.verdict(plan)
+
+
+class Worker:
+    """Tries graphs of a seed in a folder of its own."""
+
+    def __init__(self, program: Path, seed: int, keep: Path) -> None:
+        self.program, self.seed, self.keep = program, seed, keep
+        # made in the process that tries the graphs
+        self.home: Optional[tempfile.TemporaryDirectory] = None
+        self.bench: Optional[Bench] = None
+
+    def __call__(self, number: int) -> Result:
+        if self.bench is None:
+            self.home = tempfile.TemporaryDirectory()
+            self.bench = Bench(self.program, Path(self.home.name) / "files")
+            self.bench.put({})
+        before = self.bench.runs
+        trial = Trial(random.Random(f"{self.seed} {number}"), self.bench)
+        wrongs = self.judged(trial)
+        if wrongs:
+            folder = self.keep / str(number)
+            folder.mkdir(parents=True, exist_ok=True)
+            (folder / "graph").write_bytes(trial.text)
+            (folder / "case.json").write_text(json.dumps({"wrong": wrongs}, indent=1) + "\n")
+        return Result(trial.bound == trial.least, len(trial.orders), self.bench.runs - before, wrongs)
+
+    def judged(self, trial: Trial) -> list[str]:
+        wrongs = []
+        try:
+            for wrong in trial.wrongs():
+                wrongs.append(wrong)
+        except subprocess.TimeoutExpired:
+            wrongs.append(f"a run takes more than {SECONDS} seconds")
+        except (LookupError, ValueError) as error:
+            wrongs.append(f"this script cannot judge it: {error!r}")
+        return wrongs
+
+
+def arguments() -> argparse.Namespace:
+    parser = argparse.ArgumentParser(description=__doc__, formatter_class=argparse.RawDescriptionHelpFormatter)
+    parser.add_argument("program", type=Path)
+    parser.add_argument("--graphs", type=int, default=20000)
+    parser.add_argument("--first", type=int, default=1, help="the number of the first graph")
+    parser.add_argument("--seed", type=int, default=1)
+    parser.add_argument("--jobs", type=int, default=2)
+    parser.add_argument("--keep", type=Path, default=Path("wrong-bounds"))
+    return parser.parse_args()
+
+
+def main() -> int:
+    given = arguments()
+    worker = Worker(given.program.resolve(), given.seed, given.keep.resolve())
+    results: list[Result] = []
+    with multiprocessing.Pool(given.jobs) as pool:
+        for result in pool.imap(worker, range(given.first, given.first + given.graphs), chunksize=50):
+            for wrong in result.wrongs:
+                print(f"graph {given.first + len(results)}: {wrong}", flush=True)
+            results.append(result)
+    met = sum(1 for result in results if result.is_met)
+    wrong = sum(1 for result in results if result.wrongs)
+    orders, runs = (sum(counts) for counts in zip(*((result.orders, result.runs) for result in results)))
+    print(f"{len(results)} graphs, of {met} the bound is the least peak; {orders} orders, {runs} runs; {wrong} wrong")
+    return 1 if wrong else 0
+
+
+if __name__ == "__main__":
+    sys.exit(main())
