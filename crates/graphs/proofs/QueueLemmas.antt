@@ -8,13 +8,14 @@ use Rattle.std.proofs.lemmas.List.{take-append-le, drop_more, take-append-drop, 
 use Rattle.std.proofs.Math.Seq.{get_or-append_seam}
 use Rattle.std.proofs.lemmas.List.Elements.{All-push, All-nil}
 use Rattle.std.proofs.lemmas.List.Folds.{list_any-append}
-use Rattle.std.proofs.lemmas.List.Sums.{sum_by-cons, sum_by_more, sum_by-take-le, sum_by-set, count_by-le-length}
-use Rattle.std.proofs.lemmas.Bool.{cases_eq, cases_lt, ne_eqb, eqb-true, and_parts, not-true, false_from_ne_true, true_from_ne_false}
+use Rattle.std.proofs.lemmas.List.Sums.{sum_by-cons, sum_by-append, sum_by_more, sum_by-take-le, sum_by-set, count_by-le-length}
+use Rattle.std.proofs.lemmas.Bool.{cases_eq, cases_lt, ne_eqb, eqb-true, and_parts, or_parts, or_left, or_right, not-true}
+use Rattle.std.proofs.lemmas.Bool.{false_from_ne_true, true_from_ne_false}
 use Rattle.mp_system.specs.Memory.{stands_in}
 use Rattle.row_table.specs.Rows.{numbers_with}
 use Rattle.graphs.specs.declared.arc.Arc.{Arc}
-use Rattle.graphs.specs.Graph.{IsAmong, IsArcWithin, IsSupplied, AreSupplied, CanBeOrdered}
-use Rattle.graphs.specs.Queue.{from_of, arc_at, is_wait, waits_of, heads_among, IsQueueTaken, IsPartTaken, IsArcRow, AreJudged}
+use Rattle.graphs.specs.Graph.{IsAmong, IsArcWithin, IsSupplied, AreSupplied, CanBeOrdered, IsOrdering}
+use Rattle.graphs.specs.Queue.{from_of, arc_at, is_wait, waits_of, heads_among, IsQueue, IsQueueTaken, IsPartTaken, IsArcRow, AreJudged}
 use Rattle.graphs.proofs.Standing.{stands-left, stands-new, stands-cases, stands-take, place, push-split, count-none, count-some}
 
 abbrev pub no_arc : Arc
@@ -409,6 +410,50 @@ judged n arcs waits queue at h le within =
       };
       waiting = λ v among some ordered. omega (arith, some, h.queued.listed v (ordered-stands n arcs queue closed within v among ordered));
     }
+
+-- where all can be ordered, the queue is an ordering of them
+counted-none : (xs : List ℕ) (v : ℕ) → stands_in xs v ≡ false → count_by (λ u. eqb u v) xs ≡ 0
+counted-none [] v none = refl
+counted-none (x ∷ xs) v none =
+    let parts = or_parts (eqb x v) (stands_in xs v) none in
+    let here : cond {A = ℕ} (eqb x v) 1 0 ≡ 0 = rw parts.0 refl in
+    omega (arith, here, sum_by-cons (λ u. cond {A = ℕ} (eqb u v) 1 0) x xs, counted-none xs v parts.1)
+
+stands-once : (list : List ℕ) (v : ℕ) → ((before rest : List ℕ) → list ≡ before ++ v ∷ rest → stands_in before v ≡ false)
+    → stands_in list v ≡ true → count_by (λ u. eqb u v) list ≡ 1
+stands-once list v new stands =
+    let p = place list v stands in
+    let first = counted-none p.before v (new p.before p.rest p.is) in
+    let later = counted-none p.rest v (false_from_ne_true (stands_in p.rest v) (λ again.
+    let q = place p.rest v again in
+    let split : list ≡ (p.before ++ v ∷ q.before) ++ v ∷ q.rest =
+    p.is ∙ ap (λ (xs : List ℕ). p.before ++ v ∷ xs) q.is ∙ sym (append_assoc p.before (v ∷ q.before) (v ∷ q.rest)) in
+    let there : stands_in (p.before ++ v ∷ q.before) v ≡ true = list_any-append (λ u. eqb u v) p.before (v ∷ q.before)
+    ∙ or_right (stands_in p.before v) (stands_in (v ∷ q.before) v) (or_left (eqb v v) (stands_in q.before v) (eq-eqb v v refl)) in
+    cc (sym there ∙ new (p.before ++ v ∷ q.before) q.rest split))) in
+    let one : cond {A = ℕ} (eqb v v) 1 0 ≡ 1 = rw (eq-eqb v v refl) refl in
+    omega (
+      arith,
+      first,
+      later,
+      one,
+      ap (count_by (λ u. eqb u v)) p.is,
+      sum_by-append (λ u. cond {A = ℕ} (eqb u v) 1 0) p.before (v ∷ p.rest),
+      sum_by-cons (λ u. cond {A = ℕ} (eqb u v) 1 0) v p.rest,
+    )
+
+pub queue-orders : (n : ℕ) (arcs : List Arc) (waits queue : List ℕ) → IsQueue n arcs waits queue → AreJudged n arcs waits
+    → ((v : ℕ) → IsAmong n v → CanBeOrdered arcs v) → IsOrdering n arcs queue
+queue-orders n arcs waits queue queued are ordered = record {
+  once = λ v among.
+      let idle : get_or waits v 0 ≡ 0 = elim (cases_lt 0 (get_or waits v 0)) [
+        | inl some ↦ absurd (are.waiting v among (omega (arith, some)) (ordered v among))
+        | inr none ↦ omega (arith, none)
+      ] in
+      stands-once queue v (λ before rest split. (queued.each before rest v split).1) (queued.idle v among idle);
+  tasks = queued.within;
+  supplied = record { each = λ before rest u split. (queued.each before rest u split).0 };
+}
 
 -- ---- the rows of arcs
 

@@ -83,6 +83,12 @@ pub record CanBeOrdered (arcs : List Arc) (v : ℕ) : Type 0 where
   pub supplied : AreSupplied arcs list
   pub stands : stands_in list v ≡ true
 
+-- each of n tasks stands once in the list, after all its suppliers, and no other
+pub record IsOrdering (n : ℕ) (arcs : List Arc) (list : List ℕ) : Type 0 where
+  pub once : (v : ℕ) → IsAmong n v → count_by (λ u. u == v) list ≡ 1
+  pub tasks : All (IsAmong n) list
+  pub supplied : AreSupplied arcs list
+
 -- an arc leads from a lower rank to a higher one, where it leads from a task to a task
 abbrev pub Rises : (ℕ → ℕ) → Arc → Type 0
 Rises rank arc = 1 ≤ arc.from → 1 ≤ arc.to → rank arc.from < rank arc.to

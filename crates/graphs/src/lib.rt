@@ -16,7 +16,7 @@ mod system;
 pub use arc::Arc;
 pub use graph::Graph;
 pub use judged::{GraphFault, graph_of};
-pub use queue::first_unordered;
+pub use queue::{first_unordered, ordered_tasks};
 use std::alloc::AllocError;
 pub use system::system_of_graph;
 

@@ -3,9 +3,9 @@
 ghost use Rattle.std.specs.Prelude.{◌≡◌, ◌≤◌, ◌<◌, ◌+◌, ◌-◌, ◌^◌, ℕ, [], All, IfOk, MatchOption, length, slice_index, sum, vec_len};
 ghost use Rattle.row_table.specs.Rows.{row_at};
 ghost use Rattle.limits.specs.Limits.{most_tasks};
-ghost use Rattle.graphs.specs.Graph.{IsAmong, IsArcWithin, CanBeOrdered};
+ghost use Rattle.graphs.specs.Graph.{IsAmong, IsArcWithin, CanBeOrdered, IsOrdering};
 ghost use Rattle.lists.specs.Numbers.{IsFirstWithout};
-ghost use Rattle.graphs.specs.Queue.{waits_of, IsQueueTaken, IsArcRow, AreJudged};
+ghost use Rattle.graphs.specs.Queue.{waits_of, IsQueue, IsQueueTaken, IsArcRow, AreJudged};
 
 use crate::NoMemory;
 use crate::arc::Arc;
@@ -84,7 +84,8 @@ fn take_all(
     requires rows { (length rows.now ≡ count + 1)
         × ((u : ℕ) → u ≤ count → IsArcRow arcs.now (row_at rows.now u) u) }
     requires taken { IsQueueTaken count arcs.now waits.old queue.old.items 0 }
-    ensures { IfOk result (λ _. AreJudged count arcs.now waits.new) }
+    ensures judged { IfOk result (λ _. AreJudged count arcs.now waits.new) }
+    ensures queued { IfOk result (λ _. IsQueue count arcs.now waits.new queue.new.items) }
 {
     let mut at = 0;
     while at < queue.len() {
@@ -125,6 +126,27 @@ fn rows_of(alloc: Global, count: u32, arcs: &[Arc]) -> Result<RowTable, NoMemory
     Ok(rows)
 }
 
+// The tasks that can be ordered, each after its suppliers, and for each task by how many arcs it waits for others.
+#[derive(Drop)]
+struct Ordering {
+    queue: Vec<u32>,
+    waits: Vec<u32>,
+}
+
+fn ordering_of(alloc: Global, count: u32, arcs: &[Arc]) -> Result<Ordering, NoMemory>
+    requires within { All (IsArcWithin count) arcs.now }
+    requires few { length arcs.now < 2 ^ 32 }
+    requires few_tasks { count ≤ most_tasks }
+    ensures judged { IfOk result (λ o. AreJudged count arcs.now o.waits.items) }
+    ensures queued { IfOk result (λ o. IsQueue count arcs.now o.waits.items o.queue.items) }
+{
+    let rows = rows_of(alloc, count, arcs)?;
+    let mut waits = first_waits(alloc, count, arcs)?;
+    let mut queue = first_queue(alloc, count, arcs, &waits)?;
+    take_all(count, arcs, &rows, &mut waits, &mut queue)?;
+    Ok(Ordering { queue, waits })
+}
+
 /// The lowest of so many tasks that can't be ordered, if there is one. Linear in the tasks and arcs.
 pub fn first_unordered(alloc: Global, count: u32, arcs: &[Arc]) -> Result<Option<u32>, NoMemory>
     requires within { All (IsArcWithin count) arcs.now }
@@ -134,9 +156,19 @@ pub fn first_unordered(alloc: Global, count: u32, arcs: &[Arc]) -> Result<Option
         ((v : ℕ) → IsAmong count v → CanBeOrdered arcs.now v)
         (λ v. IsFirstWithout count (CanBeOrdered arcs.now) v)) }
 {
-    let rows = rows_of(alloc, count, arcs)?;
-    let mut waits = first_waits(alloc, count, arcs)?;
-    let mut queue = first_queue(alloc, count, arcs, &waits)?;
-    take_all(count, arcs, &rows, &mut waits, &mut queue)?;
-    Ok(first_waiting(count, arcs, &waits))
+    let ordering = ordering_of(alloc, count, arcs)?;
+    Ok(first_waiting(count, arcs, &ordering.waits))
+}
+
+/// So many tasks, of which all can be ordered, each after its suppliers: breadth first, and the lower first of those that wait for
+/// nothing. Linear in the tasks and arcs. Kahn 1962.
+pub fn ordered_tasks(alloc: Global, count: u32, arcs: &[Arc]) -> Result<Vec<u32>, NoMemory>
+    requires within { All (IsArcWithin count) arcs.now }
+    requires few { length arcs.now < 2 ^ 32 }
+    requires few_tasks { count ≤ most_tasks }
+    requires ordered { (v : ℕ) → IsAmong count v → CanBeOrdered arcs.now v }
+    ensures { IfOk result (λ order. IsOrdering count arcs.now order.items) }
+{
+    let ordering = ordering_of(alloc, count, arcs)?;
+    Ok(ordering.queue)
 }

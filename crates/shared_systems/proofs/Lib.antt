@@ -13,7 +13,9 @@ pub mod Freeing
 pub mod Faults
 pub mod GivenSystems
 pub mod UseArcs
+pub mod UseOrders
 pub mod PeakSteps
+pub mod PeakLimits
 pub mod OneReaderItems
 pub mod OneReader
 pub mod OneByOne

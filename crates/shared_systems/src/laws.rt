@@ -1,6 +1,7 @@
 //! Laws over the definitions: each contract is a law, and each body is empty.
 ghost use Rattle.std.specs.Prelude.{◌≡◌, ℕ, ◌+◌, ◌<◌, ◌≤◌, ◌↔◌, Bool, true, List, All, None, count_by, length};
 ghost use Rattle.std.specs.List.{sum_by};
+ghost use Rattle.limits.specs.Limits.{most_total};
 ghost use Rattle.mp_system.specs.System.{TaskSystem, IsSystem, IsTask, need_of};
 ghost use Rattle.mp_system.specs.Memory.{state_memory, is_ready, peak_of};
 ghost use Rattle.mp_system.specs.Traversal.{IsTraversal, IsLeast, first_fault};
@@ -71,6 +72,12 @@ pub fn order_law()
 {
     traversal_law();
 }
+
+/// No peak of a traversal is above 2^60, the limit on all extras and sizes together.
+pub fn peak_limit_law()
+    ensures { (system : SharedTaskSystem) (order : List ℕ) → IsSharedSystem system →
+        IsSharedTraversal system order → shared_peak_of system order ≤ most_total }
+{}
 
 /// The least peaks are the same; an order of least peak of the collected system is one of the shared system, without the collectors.
 pub fn least_law()

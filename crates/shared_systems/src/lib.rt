@@ -31,6 +31,7 @@ pub use judged::{
 };
 use std::alloc::AllocError;
 pub use system::SharedSystem;
+pub use uses::first_order;
 
 /// Want of memory: an allocation was refused.
 pub type NoMemory = AllocError;

@@ -2,13 +2,15 @@
 
 ghost use Rattle.std.specs.Prelude.{◌≡◌, ◌+◌, ◌++◌, ◌≤◌, ◌<◌, IfOk, MatchOption, OnOk, length, map, unwrap_or};
 ghost use Rattle.graphs.specs.Graph.{arc_between, CanBeOrdered};
+ghost use Rattle.shared_systems.specs.SharedTraversal.{IsSharedTraversal};
 ghost use Rattle.lists.specs.Numbers.{Each, IsFirstWithout};
 ghost use Rattle.shared_systems.specs.Bounds.{use_arcs};
 ghost use Rattle.shared_systems.specs.Judged.{IsPlainShared};
 
 use crate::NoMemory;
 use crate::items::SharedItems;
-use graphs::{Arc, first_unordered};
+use crate::system::SharedSystem;
+use graphs::{Arc, first_unordered, ordered_tasks};
 use mp_system::Task;
 use std::alloc::Global;
 
@@ -51,4 +53,15 @@ pub fn first_unordered_task(
 {
     let arcs = use_arcs(alloc, items)?;
     first_unordered(alloc, tasks.len() as u32, &arcs)
+}
+
+/// A traversal: the tasks breadth first, the lower first of those that read what no task makes. `NoMemory` says nothing of the system.
+/// Linear in the tasks and the readers of all items. Kahn 1962.
+pub fn first_order(alloc: Global, system: &SharedSystem) -> Result<Vec<u32>, NoMemory>
+    ensures { IfOk result (λ order. IsSharedTraversal system.now order.items) }
+{
+    let tasks = system.tasks();
+    let arcs = use_arcs(alloc, system.items())?;
+    let order = ordered_tasks(alloc, tasks.len() as u32, &arcs)?;
+    Ok(order)
 }

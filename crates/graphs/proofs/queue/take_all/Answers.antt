@@ -16,8 +16,8 @@ take_next-requires-clause-row c =
     subst (λ (row : List ℕ). IsArcRow c.args.arcs.now row (get_or queue at 0)) (sym c.row-row.ensures)
     (subst (IsArcRow c.args.arcs.now (row_at c.args.rows.now u)) is (c.requires.rows.1 u (omega (arith, small, is))))
 
-pub returns : goal.returns
-returns c =
+pub returns-clause-judged : goal.returns-clause-judged
+returns-clause-judged c =
     let l = c.loop-at in
     judged c.args.count c.args.arcs.now l.waits l.queue.items l.at l.invariant
     (omega (arith, c.loop-at-test.false, c.len.ensures, l.queue.ok)) c.requires.within
