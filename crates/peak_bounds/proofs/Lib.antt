@@ -16,3 +16,5 @@ pub mod Objections
 pub mod Links
 pub mod Marking
 pub mod Told
+pub mod Sparing
+pub mod Fits

@@ -1,12 +1,12 @@
 -- Lowered sizes as they are told, item by item and place by place.
-use Rattle.std.proofs.Common.{◌≡◌, ◌⊎◌, ◌↔◌, ℕ, ◌+◌, ◌<◌, ◌≤◌, Bool, true, false, eqb, List, [], ◌∷◌, ◌++◌, length, map, take, drop}
-use Rattle.std.proofs.Common.{get_or, None, refl, sym, ap, subst, ◌∙◌, arith, length-append, inl, inr, cond}
-use Rattle.std.specs.Prelude.{ℤ, pos, negsuc, ◌+ℤ◌, ◌≤ℤ◌, All, unsigned_abs}
+use Rattle.std.proofs.Common.{◌≡◌, ◌≢◌, ◌⊎◌, ◌↔◌, ℕ, ◌+◌, ◌-◌, ◌<◌, ◌≤◌, Bool, true, false, eqb, List, [], ◌∷◌, length, map, take, drop}
+use Rattle.std.proofs.Common.{get_or, set, None, refl, sym, ap, subst, ◌∙◌, arith, length-append, inl, inr, cond}
+use Rattle.std.specs.Prelude.{ℤ, pos, negsuc, ◌≤ℤ◌, All, unsigned_abs}
 use Rattle.std.proofs.Common.{neg_ℤ}
 use Rattle.std.specs.List.{sum_by}
 use Rattle.std.proofs.lemmas.Int.{ints}
-use Rattle.std.proofs.lemmas.Bool.{cases_Bool}
-use Rattle.std.proofs.lemmas.List.{drop_more, drop_all, drop-drop, get_or-map, same_lists, ext_get_or, get_or_default, take_more}
+use Rattle.std.proofs.lemmas.Bool.{cases_Bool, cases_eq, ne_eqb}
+use Rattle.std.proofs.lemmas.List.{drop_more, drop_all, drop-drop, get_or-map, same_lists, ext_get_or, get_or_default, get_or-set_same, get_or-set_other}
 use Rattle.std.proofs.lemmas.List.FromFn.{length-map-range_with_len, get_or-map-range_with_len}
 use Rattle.std.proofs.lemmas.List.Elements.{All-head, All-tail}
 use Rattle.std.proofs.lemmas.List.Sums.{sum_by-cons, sum_by_more_le_part, sum_by_more}
@@ -16,7 +16,7 @@ use Rattle.shared_systems.specs.Bounds.{shared_size}
 use Rattle.peak_bounds.specs.declared.evidence.Amount.{Amount}
 use Rattle.peak_bounds.specs.Moments.{item_uses, uses_of, above_zero, FitSizes}
 use Rattle.peak_bounds.specs.Evidence.{amount_or, lowered_by, IsAmount, place_of}
-use Rattle.peak_bounds.specs.Judging.{size_at, sum_at, AreSmall}
+use Rattle.peak_bounds.specs.Judging.{size_at, AreSmall}
 
 -- ---- sizes of items that pass a test
 
@@ -97,6 +97,30 @@ all_taken sizes base amounts i len past each = ext_get_or (pos 0) sizes base len
   | inr there ↦ there ∙ ap (λ (l : List Amount). amount_or (size_at base k) l (k + 1)) (drop_all i amounts past)
 ])
 
+taken_out : (sizes base : List ℤ) (amounts : List Amount) (i k : ℕ) → i < length amounts → (get_or amounts i no_amount).place ≢ k + 1
+    → IsTaken sizes base (drop i amounts) k → IsTaken sizes base (drop (i + 1) amounts) k
+taken_out sizes base amounts i k lt other (inl back) = inl back
+taken_out sizes base amounts i k lt other (inr told) =
+    let a = get_or amounts i no_amount in
+    let first = ap (λ (l : List Amount). amount_or (size_at base k) l (k + 1)) (drop_more amounts i no_amount lt) in
+    let later : amount_or (size_at base k) (a ∷ drop (i + 1) amounts) (k + 1) ≡ amount_or (size_at base k) (drop (i + 1) amounts) (k + 1) = rw (ne_eqb a.place (k + 1) other) refl in
+    inr (told ∙ first ∙ later)
+
+-- where one more is taken back
+pub taken_more : (sizes base : List ℤ) (amounts : List Amount) (i place : ℕ) → i < length amounts → place < length sizes → 1 ≤ (get_or amounts i no_amount).place
+    → place ≡ (get_or amounts i no_amount).place - 1 → ((k : ℕ) → k < length sizes → IsTaken sizes base (drop i amounts) k)
+    → (k : ℕ) → k < length sizes → IsTaken (set sizes place (size_at base place)) base (drop (i + 1) amounts) k
+taken_more sizes base amounts i place lt inside some is taken k k_lt = elim (cases_eq k place) [
+  | inl here ↦ inl (ap (size_at (set sizes place (size_at base place))) here ∙ get_or-set_same sizes place (size_at base place) (pos 0) inside ∙ ap (size_at base) (sym here))
+  | inr other ↦ (
+      let same = get_or-set_other sizes place k (size_at base place) (pos 0) other in
+      let apart : (get_or amounts i no_amount).place ≢ k + 1 = λ e. absurd (other (omega (arith, e, is))) in
+      elim (taken_out sizes base amounts i k lt apart (taken k k_lt)) [
+        | inl back ↦ inl (same ∙ back)
+        | inr told ↦ inr (same ∙ told)
+      ])
+]
+
 -- ---- one item more
 
 module _ (items : List SharedItem) (lowered : List ℤ) (i start n : ℕ) (lt : i < length items) (n_is : n ≡ length (item_uses (shared_item_at items i))) where
@@ -120,15 +144,7 @@ module _ (items : List SharedItem) (lowered : List ℤ) (i start n : ℕ) (lt : 
         length-append (item_uses x) (uses_of (drop (i + 1) items)),
       )
 
--- ---- one place more
-
-pub sum_push : (sizes : List ℤ) (places : List ℕ) (k : ℕ) → sum_at sizes (places ++ k ∷ []) ≡ sum_at sizes places +ℤ size_at sizes k
-sum_push sizes [] k = omega (arith, ints)
-sum_push sizes (p ∷ places) k = omega (arith, ints, sum_push sizes places k)
-
-pub sum_more : (sizes : List ℤ) (places : List ℕ) (i : ℕ) → i < length places
-    → sum_at sizes (take (i + 1) places) ≡ sum_at sizes (take i places) +ℤ size_at sizes (get_or places i 0)
-sum_more sizes places i lt = ap (sum_at sizes) (take_more places i 0 lt) ∙ sum_push sizes (take i places) (get_or places i 0)
+-- ---- small numbers
 
 -- a small number is within the limits on both sides
 pub small_sides : (z : ℤ) → unsigned_abs z ≤ most_total → (neg_ℤ (pos most_total) ≤ℤ z) × (z ≤ℤ pos most_total)

@@ -1,57 +1,28 @@
--- Sums of lowered sizes over rows of uses, and one use after the other.
-use Rattle.std.proofs.Common.{◌≡◌, ℕ, zero, suc, ◌+◌, ◌<◌, ◌≤◌, Bool, true, false, cond, eqb, List, [], ◌∷◌, ◌++◌, length, map, take, drop, get_or}
-use Rattle.std.proofs.Common.{Option, Some, None, unwrap_or, refl, sym, ap, ◌∙◌, arith, inl, inr}
+-- Sums of lowered sizes, one use after the other.
+use Rattle.std.proofs.Common.{◌≡◌, ℕ, zero, suc, ◌+◌, ◌<◌, ◌≤◌, Bool, cond, eqb, List, [], ◌∷◌, ◌++◌, length, map, take, get_or}
+use Rattle.std.proofs.Common.{Option, Some, None, unwrap_or, refl, ap, ◌∙◌, arith}
 use Rattle.std.specs.Prelude.{ℤ, pos, ◌+ℤ◌, All}
 use Rattle.std.proofs.lemmas.Int.{ints}
-use Rattle.std.proofs.lemmas.Bool.{cases_Bool, ne_eqb}
-use Rattle.std.proofs.lemmas.List.{drop-drop, get_or-drop, get_or_default, take_more, length-take-le}
+use Rattle.std.proofs.lemmas.Bool.{ne_eqb}
+use Rattle.std.proofs.lemmas.List.{take_more, length-take-le}
 use Rattle.mp_system.specs.Given.{end_given}
 use Rattle.mp_system.specs.System.{is_named}
-use Rattle.row_table.specs.Rows.{numbers_with}
 use Rattle.shared_systems.specs.Shared.{SharedTaskSystem, SharedItem}
 use Rattle.shared_systems.specs.Bounds.{IsSharedItemWithin, IsSharedSystem}
 use Rattle.graphs.specs.Graph.{IsAmong}
 use Rattle.peak_bounds.specs.declared.uses.Use.{Use}
-use Rattle.peak_bounds.specs.Moments.{uses_for, item_uses, uses_of, is_used_by, is_made_for_use, lowered_where}
+use Rattle.peak_bounds.specs.Moments.{uses_for, item_uses, uses_of, lowered_where}
 use Rattle.peak_bounds.specs.declared.use_table.UseTable.{UseTable}
-use Rattle.peak_bounds.specs.Judging.{maker_of, taker_of, size_at, sum_at, AreUses}
+use Rattle.peak_bounds.specs.Judging.{maker_of, taker_of, size_at, AreUses}
 use Rattle.std.proofs.lemmas.List.Elements.{All-nil, All-cons, All-head, All-tail, All-append}
-use Rattle.mp_system.specs.Memory.{stands_in}
 use Rattle.peak_bounds.proofs.Links.{end_at}
-use Rattle.peak_bounds.proofs.Searching.{keyed, stands_at}
 use Rattle.peak_bounds.proofs.Following.{no_use}
 
--- ---- a row
+-- ---- the end of a use
 
-module _ (end : Use → ℕ) (test : Use → Bool) (v : ℕ) (same : (u : Use) → eqb (end u) v ≡ test u) (whole : List ℤ) where
-  row_total : (uses : List Use) (sizes : List ℤ) (first : ℕ) → drop first whole ≡ sizes → length sizes ≡ length uses
-      → sum_at whole (numbers_with (map end uses) first v) ≡ lowered_where test uses sizes
-  row_total [] sizes first at len = refl
-  row_total (u ∷ uses) [] first at len = absurd (omega arith)
-  row_total (u ∷ uses) (z ∷ sizes) first at len =
-      let later = row_total uses sizes (first + 1) (sym (drop-drop 1 first whole) ∙ ap (drop 1) at) (omega arith) in
-      let here : size_at whole first ≡ z =
-      ap (size_at whole) (let e : first ≡ first + 0 = omega arith in e) ∙ sym (get_or-drop first whole 0 (pos 0)) ∙ ap (λ (l : List ℤ). get_or l 0 (pos 0)) at in
-      elim (cases_Bool (eqb (end u) v)) [
-        | inl key ↦ (
-            let passes : test u ≡ true = sym (same u) ∙ key in
-            rw (key, passes) (omega (arith, ints, here, later)))
-        | inr other ↦ (
-            let fails : test u ≡ false = sym (same u) ∙ other in
-            rw (other, fails) (omega (arith, ints, later)))
-      ]
-
-end_is : (v : ℕ) → 1 ≤ v → (end : Option ℕ) → eqb (unwrap_or end 0) v ≡ is_named end v
+pub end_is : (v : ℕ) → 1 ≤ v → (end : Option ℕ) → eqb (unwrap_or end 0) v ≡ is_named end v
 end_is v some None = ne_eqb 0 v (λ e. absurd (omega (arith, some, e)))
 end_is v some (Some u) = refl
-
-pub taken_total : (v : ℕ) → 1 ≤ v → (uses : List Use) (sizes : List ℤ) → length sizes ≡ length uses
-    → sum_at sizes (numbers_with (map taker_of uses) 0 v) ≡ lowered_where (is_used_by v) uses sizes
-taken_total v some uses sizes len = row_total taker_of (is_used_by v) v (λ u. end_is v some u.to) sizes uses sizes 0 refl len
-
-pub made_total : (v : ℕ) → 1 ≤ v → (uses : List Use) (sizes : List ℤ) → length sizes ≡ length uses
-    → sum_at sizes (numbers_with (map maker_of uses) 0 v) ≡ lowered_where (is_made_for_use v) uses sizes
-made_total v some uses sizes len = row_total maker_of (is_made_for_use v) v (λ u. end_is v some u.from) sizes uses sizes 0 refl len
 
 -- ---- one use more
 
@@ -113,17 +84,3 @@ module _ (system : SharedTaskSystem) (within : IsSharedSystem system) (uses : Us
       let to = ap end_given (taker_is ∙ end_at taker_of all uses.takers.items k are.takers lt) ∙ again a_use.to apart.1 in
       let one : ◌≡◌ {A = Use} (record { from = end_given maker; to = end_given taker }) (record { from = a_use.from; to = end_given taker }) = ap (λ (o : Option ℕ). let u : Use = record { from = o; to = end_given taker } in u) from in
       one ∙ ap (λ (o : Option ℕ). let u : Use = record { from = a_use.from; to = o } in u) to
-
--- ---- how long a row is, and what stands in it
-
-pub row-len : (keys : List ℕ) (first v : ℕ) → length (numbers_with keys first v) ≤ length keys
-row-len [] first v = omega arith
-row-len (x ∷ keys) first v = elim (cases_Bool (eqb x v)) [
-  | inl key ↦ rw key (omega (arith, row-len keys (first + 1) v))
-  | inr other ↦ rw other (omega (arith, row-len keys (first + 1) v))
-]
-
-pub row-within : (keys row : List ℕ) (v : ℕ) → row ≡ numbers_with keys 0 v → (k d : ℕ) → k < length row → get_or row k d < length keys
-row-within keys row v is k d lt =
-    let key = keyed keys 0 v (get_or row k 0) (ap (λ (l : List ℕ). stands_in l (get_or row k 0)) (sym is) ∙ stands_at row k lt) in
-    omega (arith, get_or_default row k d 0 lt, key.1, key.3)

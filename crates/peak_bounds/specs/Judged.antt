@@ -1,11 +1,11 @@
 -- No public clause names this.
 -- What the judge of evidence has marked and found so far.
-use Rattle.std.specs.Prelude.{◌≡◌, ℕ, ◌+◌, ◌-◌, ◌*◌, ◌<◌, ◌≤◌, min, true, ◌⊎◌, List, [], length, slice_index_or}
+use Rattle.std.specs.Prelude.{◌≡◌, ℕ, ◌+◌, ◌-◌, ◌*◌, ◌<◌, ◌≤◌, min, true, ◌⊎◌, List, [], length, slice_index, slice_index_or}
 use Rattle.std.specs.Prelude.{Option, Some, None, MatchOption, Result, Ok, IfOk}
 use Rattle.lists.specs.Numbers.{Each}
 use Rattle.mp_system.specs.Memory.{stands_in}
 use Rattle.mp_system.specs.Replay.{is_marked}
-use Rattle.shared_systems.specs.Shared.{SharedTaskSystem}
+use Rattle.shared_systems.specs.Shared.{SharedTaskSystem, HasTask, shared_need_of}
 use Rattle.peak_bounds.specs.declared.step.Event.{Event}
 use Rattle.peak_bounds.specs.declared.step.Event.TheVariants.{First, Last}
 use Rattle.peak_bounds.specs.declared.marks.SetMarks.{SetMarks}
@@ -19,7 +19,8 @@ use Rattle.peak_bounds.specs.declared.evidence.BlockerTest.{BlockerTest}
 use Rattle.peak_bounds.specs.declared.evidence.BlockerTest.TheVariants as tests
 use Rattle.peak_bounds.specs.EventSets.{EventSetValue}
 use Rattle.peak_bounds.specs.Evidence.{use_count, set_tasks, lowered_by, AreAmounts, Passes, IsBeforeOne, IsAfterOne, HasRun, Waits}
-use Rattle.peak_bounds.specs.Judging.{AreUses}
+use Rattle.peak_bounds.specs.Fitting.{IsFitting}
+use Rattle.peak_bounds.specs.Judging.{AreUses, AreSpare}
 
 -- ---- marks
 
@@ -53,7 +54,12 @@ pub record AreMarks (system : SharedTaskSystem) (event : Event) (tasks : List �
 pub record IsCommon (system : SharedTaskSystem) (set : EventSetValue) (common : Common) : Type 0 where
   pub uses : AreUses system common.uses
   pub sizes : common.sizes.items ≡ lowered_by (use_count system) set.base []
+  pub spare_len : length common.spare.items ≡ length system.tasks + 1
+  pub spare : AreSpare common.uses common.sizes.items common.spare.items
+  pub fitting : IsFitting system.items common.sizes.items common.fitting
   pub marks : AreSetMarks system set.event (set_tasks set) common.marks
+  pub needs_len : length common.needs.items ≡ length system.tasks + 1
+  pub needs : (v : ℕ) → HasTask system v → slice_index common.needs.items v ≡ shared_need_of system v
 
 -- ---- tests
 

@@ -1,7 +1,7 @@
 -- No public clause names this.
 -- Uses of items as the code holds them, what a search over them finds, and sums of lowered sizes.
 use Rattle.std.specs.Prelude.{◌≡◌, ◌==◌, ℕ, ◌+◌, ◌^◌, ◌<◌, ◌≤◌, Bool, true, not, ◌⊎◌, All, List, [], ◌∷◌, length, map, count_by}
-use Rattle.std.specs.Prelude.{slice_index, slice_index_or, unwrap_or, ℤ, pos, ◌+ℤ◌, unsigned_abs}
+use Rattle.std.specs.Prelude.{slice_index, slice_index_or, unwrap_or, ℤ, pos, neg_ℤ, ◌+ℤ◌, ◌≤ℤ◌, unsigned_abs, if◌then◌else◌}
 use Rattle.std.specs.List.{list_any}
 use Rattle.limits.specs.Limits.{most_total}
 use Rattle.mp_system.specs.Memory.{stands_in}
@@ -74,10 +74,35 @@ unmarked marks = count_by (λ mark. not mark) marks
 abbrev pub size_at : List ℤ → ℕ → ℤ
 size_at sizes k = slice_index_or sizes k (pos 0)
 
--- the sizes at these places, together
-abbrev pub sum_at : List ℤ → List ℕ → ℤ
-sum_at sizes [] = pos 0
-sum_at sizes (k ∷ places) = size_at sizes k +ℤ sum_at sizes places
-
 abbrev pub AreSmall : List ℤ → Type 0
 AreSmall sizes = All (λ z. unsigned_abs z ≤ most_total) sizes
+
+-- a number at most so much above 0, or below
+abbrev pub IsWithin : ℕ → ℤ → Type 0
+IsWithin n z = (neg_ℤ (pos n) ≤ℤ z) × (z ≤ℤ pos n)
+
+-- ---- what tasks have to spare
+
+-- the sizes at the places where a key stands, together
+abbrev pub keyed_sum : List ℕ → ℕ → List ℤ → ℤ
+keyed_sum [] v sizes = pos 0
+keyed_sum (key ∷ keys) v [] = pos 0
+keyed_sum (key ∷ keys) v (size ∷ sizes) = (if key == v then size else pos 0) +ℤ keyed_sum keys v sizes
+
+-- the ends of uses are numbers of so many tasks, or 0
+pub record AreEnds (n : ℕ) (uses : UseTable) : Type 0 where
+  pub same_len : length uses.takers.items ≡ length uses.makers.items
+  pub makers : All (λ v. v ≤ n) uses.makers.items
+  pub takers : All (λ v. v ≤ n) uses.takers.items
+  pub few : length uses.makers.items < 2 ^ 24
+
+-- for each number below a count what the task leaves beyond what it takes up, in these sizes
+pub record AreSpare (uses : UseTable) (sizes spare : List ℤ) : Type 0 where
+  pub makers_len : length uses.makers.items ≡ length sizes
+  pub takers_len : length uses.takers.items ≡ length sizes
+  pub makers : All (λ v. v < length spare) uses.makers.items
+  pub takers : All (λ v. v < length spare) uses.takers.items
+  pub few : length sizes < 2 ^ 24
+  pub small : AreSmall sizes
+  pub each : (v : ℕ) → v < length spare
+      → keyed_sum uses.takers.items v sizes +ℤ size_at spare v ≡ keyed_sum uses.makers.items v sizes

@@ -1,5 +1,6 @@
 pub mod EventSets
 pub mod Evidence
+pub mod Fitting
 pub mod Judged
 pub mod Judging
 pub mod Moments

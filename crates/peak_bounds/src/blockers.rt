@@ -3,14 +3,16 @@
 ghost use Rattle.std.specs.Prelude.{◌≡◌, ◌+◌, ◌<◌, ◌≤◌, [], IfOk, OnOk, MatchOption, length};
 ghost use Rattle.peak_bounds.specs.EventSets.{EventSetValue};
 ghost use Rattle.peak_bounds.specs.Evidence.{use_count, set_tasks, lowered_by, blocker_at};
-ghost use Rattle.peak_bounds.specs.Judging.{AreUses};
+ghost use Rattle.peak_bounds.specs.Judging.{AreUses, AreSpare};
 ghost use Rattle.peak_bounds.specs.Judged.{HaveLengths, IsCommon, IsFormed, PassesAtMoment, FailsAtMoment, IsFoundIn};
 
 use crate::NoMemory;
 use crate::evidence::{Blocker, BlockerTest, EventSet, Objection};
-use crate::levels::{open_tasks_rise, reaches};
-use crate::lowered::{base_sizes, fit_sizes, put_amounts, take_back};
+use crate::fitting::{Fitting, fit_with, fitting_of};
+use crate::levels::reaches;
 use crate::marks::{Marks, SetMarks, set_marks};
+use crate::needs::all_needs;
+use crate::spare::{Lowered, base_sizes, open_tasks_rise, put_amounts, take_back};
 use crate::use_table::UseTable;
 use shared_systems::SharedSystem;
 use std::alloc::Global;
@@ -21,7 +23,12 @@ pub struct Common {
     pub uses: UseTable,
     /// The lowered sizes that the set tells.
     pub sizes: Vec<i64>,
+    /// What each task leaves beyond what it takes up in these sizes, by its number; that of 0 is nobody's.
+    pub spare: Vec<i128>,
+    pub fitting: Fitting,
     pub marks: SetMarks,
+    /// What each task needs beside the items that are there when it starts, by its number.
+    pub needs: Vec<u64>,
 }
 
 // The tasks of the set.
@@ -48,9 +55,18 @@ pub fn common_of(
     ensures { IfOk result (IsCommon system.now set.now) }
 {
     let tasks = tasks_of(alloc, set.blockers())?;
-    let sizes = base_sizes(alloc, uses.makers.len(), set.base())?;
+    let Lowered { sizes, spare } = base_sizes(alloc, &uses, system.tasks().len(), set.base())?;
     let marks = set_marks(alloc, system, &uses, set.event(), &tasks)?;
-    Ok(Common { uses, sizes, marks })
+    let fitting = fitting_of(alloc, system.items(), &sizes)?;
+    let needs = all_needs(alloc, system)?;
+    Ok(Common {
+        uses,
+        sizes,
+        spare,
+        fitting,
+        marks,
+        needs,
+    })
 }
 
 // The first test of its moment that the blocker after i others fails, if it fails one, with its lowered sizes.
@@ -61,27 +77,32 @@ fn judge_moment(
     common: &Common,
     i: usize,
     sizes: &[i64],
+    spare: &[i128],
     marks: &mut Marks,
 ) -> Result<Option<BlockerTest>, NoMemory>
     requires common { IsCommon system.now set.now common.now }
     requires formed { IsFormed system.now set.now bound }
     requires i { i < length set.now.blockers }
     requires sizes { sizes.now ≡ lowered_by (use_count system.now) set.now.base (blocker_at set.now (i + 1)).amounts }
+    requires spare { AreSpare common.now.uses sizes.now spare.now }
+    requires spare_len { length spare.now ≡ length system.now.tasks + 1 }
     requires lengths { HaveLengths (length system.now.tasks) marks.old }
     ensures found { IfOk result (λ found. MatchOption found
         (PassesAtMoment system.now set.now bound (i + 1))
         (λ test. FailsAtMoment system.now set.now bound test (i + 1))) }
     ensures lengths { OnOk result (HaveLengths (length system.now.tasks) marks.new) }
 {
-    if !fit_sizes(system.items(), sizes) {
+    let blocker = &set.blockers()[i];
+    if !fit_with(system.items(), &common.fitting, sizes, blocker.amounts()) {
         return Ok(Some(BlockerTest::Sizes));
     }
-    let task = set.blockers()[i].task();
+    let task = blocker.task();
     marks.mark(system, &common.uses, set.event(), &common.marks, task)?;
-    if !open_tasks_rise(system, &common.uses, &marks.done, &marks.waiting, sizes) {
+    if !open_tasks_rise(&marks.done, &marks.waiting, spare) {
         return Ok(Some(BlockerTest::Open));
     }
-    if !reaches(system, &common.uses, &marks.done, sizes, task, bound) {
+    let need = common.needs[task as usize];
+    if !reaches(system, &common.uses, &marks.done, sizes, need, bound) {
         return Ok(Some(BlockerTest::Level));
     }
     Ok(None)
@@ -95,23 +116,27 @@ fn judge_blocker(
     common: &Common,
     i: usize,
     sizes: &mut [i64],
+    spare: &mut [i128],
     marks: &mut Marks,
 ) -> Result<Option<BlockerTest>, NoMemory>
     requires common { IsCommon system.now set.now common.now }
     requires formed { IsFormed system.now set.now bound }
     requires i { i < length set.now.blockers }
     requires sizes { sizes.old ≡ common.now.sizes.items }
+    requires spare { AreSpare common.now.uses sizes.old spare.old }
+    requires spare_len { length spare.old ≡ length system.now.tasks + 1 }
     requires lengths { HaveLengths (length system.now.tasks) marks.old }
     ensures found { IfOk result (λ found. MatchOption found
         (PassesAtMoment system.now set.now bound (i + 1))
         (λ test. FailsAtMoment system.now set.now bound test (i + 1))) }
     ensures sizes { OnOk result (sizes.new ≡ common.now.sizes.items) }
+    ensures spare { OnOk result (AreSpare common.now.uses sizes.new spare.new) }
     ensures lengths { OnOk result (HaveLengths (length system.now.tasks) marks.new) }
 {
     let own = set.blockers()[i].amounts();
-    put_amounts(sizes, own);
-    let found = judge_moment(system, set, bound, common, i, sizes, marks)?;
-    take_back(sizes, own, &common.sizes);
+    put_amounts(&common.uses, sizes, spare, own);
+    let found = judge_moment(system, set, bound, common, i, sizes, spare, marks)?;
+    take_back(&common.uses, sizes, spare, own, &common.sizes);
     Ok(found)
 }
 
@@ -131,9 +156,12 @@ pub fn judge_part(
     ensures { IfOk result (IsFoundIn system.now set.now bound from to) }
 {
     let mut sizes = Vec::from_slice(alloc, &common.sizes)?;
+    let mut spare = Vec::from_slice(alloc, &common.spare)?;
     let mut marks = Marks::new(alloc, system.tasks().len())?;
     for i in from..to {
-        let found = judge_blocker(system, set, bound, common, i, &mut sizes, &mut marks)?;
+        let found = judge_blocker(
+            system, set, bound, common, i, &mut sizes, &mut spare, &mut marks,
+        )?;
         if let Some(test) = found {
             let place = i as u64 + 1;
             return Ok(Some(Objection::Blocker { test, place }));

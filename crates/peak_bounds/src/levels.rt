@@ -1,15 +1,12 @@
-//! The memory when a blocker starts, in lowered sizes, and what open tasks do to it.
+//! The memory when a blocker starts, in lowered sizes.
 
-ghost use Rattle.std.specs.Prelude.{◌≡◌, ◌+◌, ◌<◌, ◌≤◌, ◌^◌, ◌↔◌, ℕ, false, IsTrue, length, pos, neg_ℤ, ◌+ℤ◌, ◌≤ℤ◌, if◌then◌else◌};
+ghost use Rattle.std.specs.Prelude.{◌≡◌, ◌≤◌, ◌^◌, ◌↔◌, IsTrue, length, pos, neg_ℤ, ◌+ℤ◌, ◌≤ℤ◌, if◌then◌else◌};
 ghost use Rattle.mp_system.specs.Given.{end_given};
 ghost use Rattle.mp_system.specs.Memory.{is_done_or};
 ghost use Rattle.mp_system.specs.Replay.{is_marked};
-ghost use Rattle.shared_systems.specs.Shared.{HasTask, shared_need_of};
-ghost use Rattle.peak_bounds.specs.Moments.{uses_of, is_used_by, is_made_for_use, is_held_for, lowered_where};
+ghost use Rattle.peak_bounds.specs.Moments.{uses_of, is_held_for, lowered_where};
 ghost use Rattle.peak_bounds.specs.Judging.{AreUses, AreSmall};
 
-use crate::lowered::sum_at;
-use crate::needs::need;
 use crate::use_table::UseTable;
 use shared_systems::SharedSystem;
 
@@ -58,84 +55,22 @@ fn held_sum(system: &SharedSystem, uses: &UseTable, done: &[bool], lowered: &[i6
     sum
 }
 
-/// Whether the memory while the task runs, in lowered sizes, is at least the bound.
+/// Whether the memory while a task runs that needs so much beside what is held, in lowered sizes, is at least the bound.
 pub fn reaches(
     system: &SharedSystem,
     uses: &UseTable,
     done: &[bool],
     lowered: &[i64],
-    task: u32,
+    need: u64,
     bound: u64,
 ) -> bool
     requires uses { AreUses system.now uses.now }
     requires done { length done.now ≡ length system.now.tasks }
     requires lowered { length lowered.now ≡ length (uses_of system.now.items) }
     requires small { AreSmall lowered.now }
-    requires task { HasTask system.now task }
     ensures { IsTrue result ↔ (pos bound ≤ℤ
-        (lowered_where (is_held_for (is_marked done.now)) (uses_of system.now.items) lowered.now +ℤ pos (shared_need_of system.now task))) }
+        (lowered_where (is_held_for (is_marked done.now)) (uses_of system.now.items) lowered.now +ℤ pos need)) }
 {
     let held = held_sum(system, uses, done, lowered);
-    i128::from(bound) <= held + i128::from(need(system, task))
-}
-
-// Whether a task takes up at most what it leaves.
-fn rises(system: &SharedSystem, uses: &UseTable, lowered: &[i64], task: u32) -> bool
-    requires uses { AreUses system.now uses.now }
-    requires lowered { length lowered.now ≡ length (uses_of system.now.items) }
-    requires small { AreSmall lowered.now }
-    requires task { HasTask system.now task }
-    ensures { IsTrue result ↔ (lowered_where (is_used_by task) (uses_of system.now.items) lowered.now
-        ≤ℤ lowered_where (is_made_for_use task) (uses_of system.now.items) lowered.now) }
-{
-    let _ = system;
-    sum_at(lowered, uses.taken.row(task)) <= sum_at(lowered, uses.made.row(task))
-}
-
-// Whether it does, if it is open.
-fn rises_if_open(
-    system: &SharedSystem,
-    uses: &UseTable,
-    done: &[bool],
-    waiting: &[bool],
-    lowered: &[i64],
-    task: u32,
-) -> bool
-    requires uses { AreUses system.now uses.now }
-    requires done { length done.now ≡ length system.now.tasks }
-    requires waiting { length waiting.now ≡ length system.now.tasks }
-    requires lowered { length lowered.now ≡ length (uses_of system.now.items) }
-    requires small { AreSmall lowered.now }
-    requires task { HasTask system.now task }
-    ensures { IsTrue result ↔ (is_marked done.now task ≡ false → is_marked waiting.now task ≡ false →
-        lowered_where (is_used_by task) (uses_of system.now.items) lowered.now
-        ≤ℤ lowered_where (is_made_for_use task) (uses_of system.now.items) lowered.now) }
-{
-    let place = task as usize - 1;
-    done[place] || waiting[place] || rises(system, uses, lowered, task)
-}
-
-/// Whether each open task does.
-pub fn open_tasks_rise(
-    system: &SharedSystem,
-    uses: &UseTable,
-    done: &[bool],
-    waiting: &[bool],
-    lowered: &[i64],
-) -> bool
-    requires uses { AreUses system.now uses.now }
-    requires done { length done.now ≡ length system.now.tasks }
-    requires waiting { length waiting.now ≡ length system.now.tasks }
-    requires lowered { length lowered.now ≡ length (uses_of system.now.items) }
-    requires small { AreSmall lowered.now }
-    ensures { IsTrue result ↔ ((v : ℕ) → HasTask system.now v → is_marked done.now v ≡ false → is_marked waiting.now v ≡ false →
-        lowered_where (is_used_by v) (uses_of system.now.items) lowered.now
-        ≤ℤ lowered_where (is_made_for_use v) (uses_of system.now.items) lowered.now) }
-{
-    for i in 0..system.tasks().len() {
-        if !rises_if_open(system, uses, done, waiting, lowered, i as u32 + 1) {
-            return false;
-        }
-    }
-    true
+    i128::from(bound) <= held + i128::from(need)
 }

@@ -7,6 +7,7 @@
 mod blockers;
 mod chunks;
 mod evidence;
+mod fitting;
 mod judging;
 pub mod laws;
 mod levels;
@@ -14,6 +15,7 @@ mod lowered;
 mod marks;
 mod needs;
 mod search;
+mod spare;
 mod step;
 mod use_table;
 mod uses;

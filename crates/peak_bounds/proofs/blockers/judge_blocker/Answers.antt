@@ -25,9 +25,9 @@ are_amounts c n same =
     (subst (λ (l : List Amount). All (IsAmount (use_count c.args.system.now)) l) (sym (own c))
     (c.requires.formed.each forms.Amounts (c.args.i + 1) (omega arith, omega (arith, c.requires.i))).each)
 
-pub put_amounts-requires : goal.put_amounts-requires
-put_amounts-requires c =
-    let a = (goal.at.put_amounts-requires c).After-amounts-own in
+pub put_amounts-requires-clause-within : goal.put_amounts-requires-clause-within
+put_amounts-requires-clause-within c =
+    let a = (goal.at.put_amounts-requires-clause-within c).After-amounts-own in
     are_amounts a (length c.args.sizes.now) (long a)
 
 pub take_back-requires-clause-within : goal.take_back-requires-clause-within
@@ -42,4 +42,4 @@ judge_moment-requires-clause-sizes c =
     lowered-is count c.args.set.now.base (blocker_at c.args.set.now (c.args.i + 1)).amounts c.args.sizes.now c.put_amounts.new.sizes (long a) (c.put_amounts.auto.sizes ∙ long a)
     (base_told count c.args.set.now.base c.args.sizes.now (c.requires.sizes ∙ c.requires.common.sizes))
     (λ k lt.
-    c.put_amounts.ensures k (omega (arith, lt, long a)) ∙ ap (λ (l : List Amount). amount_or (size_at c.args.sizes.now k) l (k + 1)) (own a))
+    c.put_amounts.ensures.sizes k (omega (arith, lt, long a)) ∙ ap (λ (l : List Amount). amount_or (size_at c.args.sizes.now k) l (k + 1)) (own a))

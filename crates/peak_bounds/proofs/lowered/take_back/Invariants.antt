@@ -1,6 +1,0 @@
-use Rattle.std.proofs.Common.{ℕ, ◌<◌, length, drop}
-use Rattle.peak_bounds.proofs.Told.{IsTaken}
-use Rattle.peak_bounds.proofs.lowered.take_back.Given as goal
-
-abbrev pub invariant-loop-i : goal.invariant-loop-i
-invariant-loop-i l = (k : ℕ) → k < length l.sizes → IsTaken l.sizes l.base (drop l.i l.amounts) k
