@@ -24,7 +24,8 @@ pub record IsReplayed (system : SharedTaskSystem) (plan : BoundedPlanValue) : Ty
   pub traversal : IsSharedTraversal system plan.order
   pub peak : shared_peak_of system plan.order ≡ plan.peak
 
--- no term tells the orders of the system, for this reason, which is not want of memory
+-- no term is made that tells the orders of the system, for this reason, which is not want of memory: why there is none, or that it would have
+-- too many arcs
 abbrev pub IsWithoutTerm : SharedTaskSystem → Type 0
 IsWithoutTerm system = (refusal : SharedReduceRefusal) × (refusal ≢ NoMemory) × IsRefusedTerm system refusal
 

@@ -16,7 +16,7 @@ pub enum BoundObjection {
     },
     /// What is said against the sums.
     Sums(Objection),
-    /// The evidence is claims, and no term tells the orders of the system.
+    /// The evidence is claims, and `reduce_shared` makes no term of the system.
     NoTerm,
     /// The last position of the term has no claim with a bound of at least the plan's less 1.
     Root {

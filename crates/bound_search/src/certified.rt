@@ -81,6 +81,35 @@ fn next_shown(
 
 /// A lower bound on the peak of every traversal of a system, with evidence that shows it, within the limits of a file: the best that is found
 /// with an effort, counted in steps, and no less than what any task reads and needs, or is there at the start. How much more is not promised.
+/// Evidence is judged beside the effort: for each task of a set that is linear in the tasks and the readers of all items. `lowest` is the
+/// lowest peak of an order that is known, or more: nothing above it is looked for, and the search begins there.
+pub fn certify_bound_below(
+    alloc: Global,
+    system: &SharedSystem,
+    lowest: u64,
+    effort: u64,
+) -> Result<CertifiedBound, NoMemory>
+    ensures shown { IfOk result (λ c. IsEvidence system.now c.evidence c.bound) }
+    ensures within { IfOk result (λ c. IsWithin (Sums c.evidence) × (c.bound ≤ most_total)) }
+    ensures needs { IfOk result (λ c. (t : ℕ) → HasTask system.now t → memory_of_task system.now t ≤ c.bound) }
+    ensures start { IfOk result (λ c. memory_at_start system.now ≤ c.bound) }
+    ensures peaks { IfOk result (λ c.
+        (order : List ℕ) → IsSharedTraversal system.now order → c.bound ≤ shared_peak_of system.now order) }
+{
+    evidence_law();
+    system.keeps();
+    let plain = plain_bound(alloc, system)?;
+    let mut search = Search::new(alloc, system, effort, plain.bound, lowest)?;
+    for _ in 0..search.found() {
+        if let Some(found) = next_shown(alloc, system, &mut search, plain.bound)? {
+            return Ok(found);
+        }
+    }
+    Ok(plain)
+}
+
+/// A lower bound on the peak of every traversal of a system, with evidence that shows it, within the limits of a file: the best that is found
+/// with an effort, counted in steps, and no less than what any task reads and needs, or is there at the start. How much more is not promised.
 /// Evidence is judged beside the effort: for each task of a set that is linear in the tasks and the readers of all items.
 pub fn certify_bound(
     alloc: Global,
@@ -94,14 +123,5 @@ pub fn certify_bound(
     ensures peaks { IfOk result (λ c.
         (order : List ℕ) → IsSharedTraversal system.now order → c.bound ≤ shared_peak_of system.now order) }
 {
-    evidence_law();
-    system.keeps();
-    let plain = plain_bound(alloc, system)?;
-    let mut search = Search::new(alloc, system, effort, plain.bound)?;
-    for _ in 0..search.found() {
-        if let Some(found) = next_shown(alloc, system, &mut search, plain.bound)? {
-            return Ok(found);
-        }
-    }
-    Ok(plain)
+    certify_bound_below(alloc, system, u64::MAX, effort)
 }

@@ -2,7 +2,7 @@
 
 use crate::NoMemory;
 use crate::network::Network;
-use crate::tables::{count_of, number_at, put_number};
+use crate::tables::{count_of, is_marked, number_at, put_number};
 use std::alloc::Global;
 
 /// The nodes that come before one, but for the root, which comes before all.
@@ -28,38 +28,47 @@ impl Closure {
         &self.members
     }
 
+    /// No nodes but the root.
+    pub fn clear(&mut self, network: &Network) {
+        self.members.clear();
+        self.stamp = self.stamp.saturating_add(1);
+        put_number(&mut self.marks, network.root(), self.stamp);
+    }
+
     /// Whether a node is one of them, or the root.
     #[inline]
     pub fn has(&self, node: u32) -> bool {
         number_at(&self.marks, node) == self.stamp
     }
 
-    // Takes in the nodes right before one.
-    fn take_in(&mut self, network: &Network, node: u32) -> Result<(), NoMemory> {
-        for arc in network.down(node) {
-            let before = network.head(*arc);
-            if !self.has(before) {
-                put_number(&mut self.marks, before, self.stamp);
-                self.members.push(before)?;
+    // Takes in the nodes right before one that are not left out.
+    fn take_in(&mut self, network: &Network, left_out: &[bool], node: u32) -> Result<(), NoMemory> {
+        for before in network.earlier(node) {
+            if !self.has(*before) && !is_marked(left_out, *before) {
+                put_number(&mut self.marks, *before, self.stamp);
+                self.members.push(*before)?;
             }
         }
         Ok(())
     }
 
-    /// Makes them those before this node. How many steps it took.
-    pub fn set(&mut self, network: &Network, node: u32) -> Result<usize, NoMemory> {
-        self.members.clear();
-        self.stamp = self.stamp.saturating_add(1);
-        put_number(&mut self.marks, network.root(), self.stamp);
-        self.take_in(network, node)?;
-        let mut steps = network.down(node).len();
+    /// Makes them those before this node, but for some that are left out, and what comes before these alone. How many steps it took.
+    pub fn set(
+        &mut self,
+        network: &Network,
+        left_out: &[bool],
+        node: u32,
+    ) -> Result<usize, NoMemory> {
+        self.clear(network);
+        self.take_in(network, left_out, node)?;
+        let mut steps = network.earlier(node).len();
         for k in 0..network.nodes() {
             if k >= count_of(self.members.len()) {
                 break;
             }
             let member = number_at(&self.members, k);
-            steps = steps.saturating_add(network.down(member).len());
-            self.take_in(network, member)?;
+            steps = steps.saturating_add(network.earlier(member).len());
+            self.take_in(network, left_out, member)?;
         }
         Ok(steps)
     }

@@ -13,6 +13,12 @@ impl Effort {
         Effort { taken: 0, most }
     }
 
+    /// So many steps may be taken from now on.
+    pub fn allow(&mut self, most: u64) {
+        self.taken = 0;
+        self.most = most;
+    }
+
     /// So many more are taken.
     #[inline]
     pub fn spend(&mut self, steps: u64) {
@@ -31,7 +37,7 @@ impl Effort {
         self.most.saturating_sub(self.taken)
     }
 
-    /// How many were taken.
+    /// How many were taken since it was last said how many may be.
     pub fn taken(&self) -> u64 {
         self.taken
     }

@@ -3,12 +3,16 @@
 
 use crate::NoMemory;
 use crate::closure::Closure;
+use crate::common::{common_of, marked};
 use crate::effort::Effort;
-use crate::kept_flow::{KeptFlow, NONE};
+use crate::filling::fill;
+use crate::kept_flow::KeptFlow;
+use crate::legs::NONE;
 use crate::network::Network;
 use crate::tables::{amount_at, count_of, is_marked, mark, number_at, put_amount, put_number};
 use crate::use_table::UseTable;
 use crate::within::{flow_within, outside_of};
+use limits::MOST_POSITIONS;
 use peak_bounds::{Amount, Blocker, Event, EventSet};
 use std::alloc::Global;
 
@@ -19,12 +23,16 @@ struct Lowering {
     outside: Vec<bool>,
     in_set: Vec<bool>,
     kept: KeptFlow,
+    // What comes before all tasks of the set, and before the one that is looked at beside that.
+    common: Vec<bool>,
     closure: Closure,
     base: Vec<i64>,
     now: Vec<i64>,
     // Which items are looked at for a task, and for which task each was last.
     touched: Vec<u32>,
     touched_for: Vec<u32>,
+    // How many amounts were told.
+    told: u64,
 }
 
 impl Lowering {
@@ -40,26 +48,28 @@ impl Lowering {
         let is_first = network.root() == 0;
         let mut outside = outside_of(alloc, network, order, set)?;
         mark(&mut outside, network.far());
-        let mut in_set = vec![in alloc; false; network.nodes() as usize]?;
-        for task in set {
-            mark(&mut in_set, *task);
-        }
         let mut kept = flow_within(alloc, network, order, &outside, effort)?;
         if is_first {
             kept.drain_to_root(network)?;
         } else {
-            kept.fill(network)?;
+            fill(&mut kept, network)?;
         }
+        let mut closure = Closure::new(alloc, network.nodes())?;
+        let common = common_of(alloc, network, &mut kept, &mut closure, set)?;
+        kept.settle(network, &common)?;
+        closure.clear(network);
         Ok(Lowering {
             is_first,
             outside,
-            in_set,
+            in_set: marked(alloc, network.nodes(), set)?,
             kept,
-            closure: Closure::new(alloc, network.nodes())?,
+            common: marked(alloc, network.nodes(), &common)?,
+            closure,
             base: vec![in alloc; 0; table.uses() as usize]?,
             now: vec![in alloc; 0; table.uses() as usize]?,
             touched: Vec::new(alloc),
             touched_for: vec![in alloc; 0; table.items() as usize]?,
+            told: 0,
         })
     }
 
@@ -85,11 +95,25 @@ impl Lowering {
         is_marked(&self.outside, node)
     }
 
-    // What flows from the collector to the reader, less what flows from there.
-    fn passed(&self, table: &UseTable, place: u32) -> i64 {
-        self.kept
-            .flow(table.side(place))
-            .saturating_sub(self.kept.flow(place))
+    // Whether a node comes before the task that is looked at, or before all of them.
+    fn is_before(&self, node: u32) -> bool {
+        is_marked(&self.common, node) || self.closure.has(node)
+    }
+
+    // What flows by the arc at a place.
+    fn flow(&self, network: &Network, place: u32) -> i64 {
+        self.kept.flow(network.arc(place))
+    }
+
+    // What flows from the collector to the reader.
+    fn side_flow(&self, network: &Network, table: &UseTable, place: u32) -> i64 {
+        self.flow(network, table.side(place))
+    }
+
+    // That, less what flows from there.
+    fn passed(&self, network: &Network, table: &UseTable, place: u32) -> i64 {
+        self.side_flow(network, table, place)
+            .saturating_sub(self.flow(network, place))
     }
 
     // As the first of the set starts: the first reader outside has the rest.
@@ -97,8 +121,8 @@ impl Lowering {
         let mut rest = table.size(item);
         let mut waiting = NONE;
         for place in table.first(item)..table.first(item.saturating_add(1)) {
-            rest = rest.saturating_sub(self.kept.flow(table.side(place)));
-            let passed = self.passed(table, place);
+            rest = rest.saturating_sub(self.side_flow(network, table, place));
+            let passed = self.passed(network, table, place);
             put_amount(&mut self.now, place, passed);
             if waiting == NONE && self.is_outside(self.reader(network, place)) {
                 waiting = place;
@@ -112,7 +136,7 @@ impl Lowering {
 
     // Whether a node waits for certain, as this task starts as the last of the set.
     fn is_late(&self, task: u32, node: u32) -> bool {
-        node == task || self.closure.has(node)
+        node == task || self.is_before(node)
     }
 
     // What the readers of a shared item leave that do not wait for certain.
@@ -121,7 +145,7 @@ impl Lowering {
         for place in table.first(item)..table.first(item.saturating_add(1)) {
             let reader = self.reader(network, place);
             if !self.is_late(task, reader) && !self.is_outside(reader) {
-                rest = rest.saturating_sub(self.kept.flow(table.side(place)));
+                rest = rest.saturating_sub(self.side_flow(network, table, place));
             }
         }
         rest
@@ -134,10 +158,10 @@ impl Lowering {
             let reader = self.reader(network, place);
             let mut amount = 0;
             if self.is_late(task, reader) {
-                amount = rest.saturating_sub(self.kept.flow(place));
+                amount = rest.saturating_sub(self.flow(network, place));
                 rest = 0;
             } else if !self.is_outside(reader) {
-                amount = self.passed(table, place);
+                amount = self.passed(network, table, place);
             }
             put_amount(&mut self.now, place, amount);
         }
@@ -148,9 +172,9 @@ impl Lowering {
         let place = table.first(item);
         let producer = self.producer(network, place);
         if !table.is_shared(item) {
-            let amount = table.size(item).saturating_sub(self.kept.flow(place));
+            let amount = table.size(item).saturating_sub(self.flow(network, place));
             put_amount(&mut self.now, place, amount);
-            return !(self.closure.has(producer) && self.closure.has(self.reader(network, place)));
+            return !(self.is_before(producer) && self.is_before(self.reader(network, place)));
         }
         if self.is_first {
             self.lower_before(network, table, item);
@@ -179,19 +203,26 @@ impl Lowering {
     ) -> Result<Vec<Amount>, NoMemory> {
         let mut amounts = Vec::new(alloc);
         for item in 0..table.items() {
-            if self.is_in_base(network, table, item) {
-                let _ = self.lower(network, table, item, NONE);
+            if self.is_in_base(network, table, item) && self.lower(network, table, item, NONE) {
                 self.tell(table, item, &mut amounts)?;
             }
         }
         for amount in &amounts {
-            put_amount(
-                &mut self.base,
-                amount.place.saturating_sub(1),
-                amount.amount,
-            );
+            let place = amount.place.saturating_sub(1);
+            put_amount(&mut self.base, place, amount.amount);
         }
+        self.count(&amounts);
         Ok(amounts)
+    }
+
+    fn count(&mut self, amounts: &[Amount]) {
+        self.told = self.told.saturating_add(amounts.len() as u64);
+        self.kept.spend(amounts.len());
+    }
+
+    // Whether the effort is spent, or more was told than a file can have.
+    fn is_over(&self) -> bool {
+        self.kept.effort().is_spent() || self.told > MOST_POSITIONS
     }
 
     // The amounts of an item's uses that differ from those of the set.
@@ -216,6 +247,49 @@ impl Lowering {
         Ok(())
     }
 
+    // The items whose flows differ from those of the set.
+    fn touch_changed(
+        &mut self,
+        network: &Network,
+        table: &UseTable,
+        task: u32,
+    ) -> Result<(), NoMemory> {
+        for k in 0..self.kept.log().len() {
+            let Some(change) = self.kept.log().get(k).copied() else {
+                break;
+            };
+            if !change.is_room {
+                self.touch(table.item_of_arc(network.place(change.place)), task)?;
+            }
+        }
+        Ok(())
+    }
+
+    // The shared items that a node reads, or takes up as their collector.
+    fn touch_shared(
+        &mut self,
+        network: &Network,
+        table: &UseTable,
+        node: u32,
+        task: u32,
+    ) -> Result<(), NoMemory> {
+        let first = network.first_up(node);
+        for k in 0..count_of(network.later(node).len()) {
+            self.touch_side(table, network.place(first.saturating_add(k)), task)?;
+        }
+        for arc in network.down(node) {
+            self.touch_side(table, network.place(*arc), task)?;
+        }
+        Ok(())
+    }
+
+    fn touch_side(&mut self, table: &UseTable, place: u32, task: u32) -> Result<(), NoMemory> {
+        if place >= table.uses() {
+            self.touch(table.item_of_arc(place), task)?;
+        }
+        Ok(())
+    }
+
     // The items whose lowered sizes may differ from those of the set.
     fn touch_all(
         &mut self,
@@ -224,40 +298,36 @@ impl Lowering {
         task: u32,
     ) -> Result<(), NoMemory> {
         self.touched.clear();
-        for k in 0..self.kept.log().len() {
-            let Some(change) = self.kept.log().get(k).copied() else {
-                break;
-            };
-            if !change.is_room {
-                self.touch(table.item_of_arc(change.place), task)?;
-            }
-        }
+        self.touch_changed(network, table, task)?;
         if !self.is_first {
+            self.touch_shared(network, table, task, task)?;
             for k in 0..self.closure.members().len() {
                 let node = number_at(self.closure.members(), count_of(k));
-                if network.is_collector(node) {
-                    let collector = node.saturating_sub(network.tasks()).saturating_sub(2);
-                    self.touch(table.item_of_collector(collector), task)?;
-                }
+                self.touch_shared(network, table, node, task)?;
             }
         }
         self.touched.sort_unstable();
         Ok(())
     }
 
-    // A task of the set, with its own lowered sizes.
+    // A task of the set, with its own lowered sizes; none if these do not show the bound.
     fn blocker(
         &mut self,
         alloc: Global,
         network: &Network,
         table: &UseTable,
         task: u32,
-    ) -> Result<Blocker, NoMemory> {
-        let steps = self.closure.set(network, task)?;
-        self.kept.spend(steps);
-        let _ = self
+        bound: i64,
+    ) -> Result<Option<Blocker>, NoMemory> {
+        let least = bound.saturating_sub(network.need(task));
+        let steps = self.closure.set(network, &self.common, task)?;
+        self.kept.spend(steps.saturating_mul(2));
+        let level = self
             .kept
-            .force(network, self.closure.members(), crate::kept_flow::MUCH)?;
+            .force_logged(network, self.closure.members(), least.saturating_sub(1))?;
+        if level < least {
+            return Ok(None);
+        }
         self.touch_all(network, table, task)?;
         let mut amounts = Vec::new(alloc);
         for k in 0..self.touched.len() {
@@ -268,29 +338,32 @@ impl Lowering {
         }
         self.kept.spend(self.touched.len());
         self.kept.back();
-        Ok(Blocker::new(task, amounts))
+        self.count(&amounts);
+        Ok(Some(Blocker::new(task, amounts)))
     }
 }
 
-/// The evidence that a set of tasks gives, in the direction of the network; none if the effort does not suffice for it.
-pub fn evidence_of(
+// The evidence, if the effort suffices for it and there are no more amounts than a file can have.
+fn make_set(
     alloc: Global,
     network: &Network,
-    order: &[u32],
     table: &UseTable,
     set: &[u32],
-    effort: Effort,
+    bound: i64,
+    lowering: &mut Lowering,
 ) -> Result<Option<EventSet>, NoMemory> {
-    let mut lowering = Lowering::new(alloc, network, order, table, set, effort)?;
     let base = lowering.make_base(alloc, network, table)?;
     let mut blockers = Vec::new(alloc);
     for task in set {
-        if lowering.kept.effort().is_spent() {
+        if lowering.is_over() {
             return Ok(None);
         }
-        blockers.push(lowering.blocker(alloc, network, table, *task)?)?;
+        let Some(blocker) = lowering.blocker(alloc, network, table, *task, bound)? else {
+            return Ok(None);
+        };
+        blockers.push(blocker)?;
     }
-    if lowering.kept.effort().is_spent() {
+    if lowering.is_over() {
         return Ok(None);
     }
     let event = if lowering.is_first {
@@ -299,4 +372,20 @@ pub fn evidence_of(
         Event::Last
     };
     Ok(Some(EventSet::new(event, base, blockers)))
+}
+
+/// The evidence that a set of tasks gives for a bound, in the direction of the network, and what was spent; none if it shows less, if the
+/// effort does not suffice for it, or if it would tell more amounts than a file can have.
+pub fn evidence_of(
+    alloc: Global,
+    network: &Network,
+    order: &[u32],
+    table: &UseTable,
+    set: &[u32],
+    bound: i64,
+    effort: Effort,
+) -> Result<(Option<EventSet>, Effort), NoMemory> {
+    let mut lowering = Lowering::new(alloc, network, order, table, set, effort)?;
+    let evidence = make_set(alloc, network, table, set, bound, &mut lowering)?;
+    Ok((evidence, lowering.kept.effort()))
 }

@@ -4,24 +4,30 @@
 //! reads; then a collector for each item with several readers, which takes the item up after all of them.
 
 use crate::NoMemory;
-use crate::rows::Rows;
-use crate::tables::{add_amount, amount_at, count_of};
+use crate::rows::{Rows, values_at};
+use crate::tables::{add_amount, amount_at, count_of, number_at, put_number};
 use shared_systems::SharedSystem;
 use std::alloc::Global;
 
-/// The network of a system, in one of its two directions. The arc at the place of a use runs from its reader, or the end, to its
-/// producer, or the start; after these come the arcs from collectors to readers. In the mirror all arcs run the other way.
+/// The network of a system, in one of its two directions. At the place of a use stands the arc from its reader, or the end, to its
+/// producer, or the start; after these come those from collectors to readers. In the mirror all of them run the other way. The arcs
+/// themselves are numbered by the nodes to which they run, so that the arcs up from a node stand side by side.
 #[derive(Drop)]
 pub struct Network {
     tasks: u32,
     nodes: u32,
     root: u32,
     far: u32,
-    uses: u32,
+    // From which node to which the arc at each place runs.
     tails: Vec<u32>,
     heads: Vec<u32>,
+    // The arc at each place, and back.
+    arcs: Vec<u32>,
+    places: Vec<u32>,
+    // By the node to which they run: from which. The arcs by the node from which they run, and to which.
+    later: Rows,
     down: Rows,
-    up: Rows,
+    earlier: Rows,
     changes: Vec<i64>,
     needs: Vec<i64>,
 }
@@ -132,12 +138,9 @@ impl Network {
                 items.readers(i),
             )?;
         }
-        let uses = count_of(draft.tails.len());
         for i in 0..items.len() {
             draft.taker(signed(items.size(i)), items.readers(i))?;
         }
-        let down = Rows::new(alloc, &draft.tails, nodes)?;
-        let up = Rows::new(alloc, &draft.heads, nodes)?;
         let Draft {
             end,
             next: _,
@@ -146,16 +149,43 @@ impl Network {
             changes,
             needs,
         } = draft;
+        let tasks = count_of(system.tasks().len());
+        Network::of_arcs(alloc, tasks, 0, end, tails, heads, changes, needs)
+    }
+
+    // The network of these arcs.
+    fn of_arcs(
+        alloc: Global,
+        tasks: u32,
+        root: u32,
+        far: u32,
+        tails: Vec<u32>,
+        heads: Vec<u32>,
+        changes: Vec<i64>,
+        needs: Vec<i64>,
+    ) -> Result<Network, NoMemory> {
+        let nodes = changes.len();
+        let up = Rows::new(alloc, &heads, nodes)?;
+        let places = Vec::from_slice(alloc, up.numbers())?;
+        let mut arcs = vec![in alloc; 0; places.len()]?;
+        for (arc, place) in places.iter().enumerate() {
+            put_number(&mut arcs, *place, count_of(arc));
+        }
+        let later = up.through(alloc, &tails)?;
+        let down = Rows::new(alloc, later.numbers(), nodes)?;
+        let earlier = down.through(alloc, &values_at(alloc, &heads, &places)?)?;
         Ok(Network {
-            tasks: count_of(system.tasks().len()),
+            tasks,
             nodes: count_of(nodes),
-            root: 0,
-            far: end,
-            uses,
+            root,
+            far,
             tails,
             heads,
+            arcs,
+            places,
+            later,
             down,
-            up,
+            earlier,
             changes,
             needs,
         })
@@ -175,19 +205,11 @@ impl Network {
                 amount_at(&self.needs, node).saturating_sub(change),
             );
         }
-        Ok(Network {
-            tasks: self.tasks,
-            nodes: self.nodes,
-            root: self.far,
-            far: self.root,
-            uses: self.uses,
-            tails: Vec::from_slice(alloc, &self.heads)?,
-            heads: Vec::from_slice(alloc, &self.tails)?,
-            down: Rows::new(alloc, &self.heads, nodes)?,
-            up: Rows::new(alloc, &self.tails, nodes)?,
-            changes,
-            needs,
-        })
+        let tails = Vec::from_slice(alloc, &self.heads)?;
+        let heads = Vec::from_slice(alloc, &self.tails)?;
+        Network::of_arcs(
+            alloc, self.tasks, self.far, self.root, tails, heads, changes, needs,
+        )
     }
 
     /// How many tasks there are.
@@ -202,12 +224,7 @@ impl Network {
 
     /// How many arcs there are.
     pub fn arcs(&self) -> u32 {
-        count_of(self.tails.len())
-    }
-
-    /// How many of them stand for uses.
-    pub fn uses(&self) -> u32 {
-        self.uses
+        count_of(self.places.len())
     }
 
     /// The node that comes before all others: the start, and in the mirror the end.
@@ -232,28 +249,48 @@ impl Network {
         node > self.tasks.saturating_add(1)
     }
 
-    /// From which node an arc runs.
-    #[inline]
-    pub fn tail(&self, arc: u32) -> u32 {
-        self.tails.get(arc as usize).copied().unwrap_or(0)
+    /// From which node the arc at a place runs.
+    pub fn tail(&self, place: u32) -> u32 {
+        number_at(&self.tails, place)
     }
 
-    /// To which node an arc runs.
-    #[inline]
-    pub fn head(&self, arc: u32) -> u32 {
-        self.heads.get(arc as usize).copied().unwrap_or(0)
+    /// To which node the arc at a place runs.
+    pub fn head(&self, place: u32) -> u32 {
+        number_at(&self.heads, place)
     }
 
-    /// The arcs from a node to those that come before it.
+    /// The arc at a place.
+    pub fn arc(&self, place: u32) -> u32 {
+        number_at(&self.arcs, place)
+    }
+
+    /// The place of an arc.
+    pub fn place(&self, arc: u32) -> u32 {
+        number_at(&self.places, arc)
+    }
+
+    /// The nodes that come right before one.
+    #[inline]
+    pub fn earlier(&self, node: u32) -> &[u32] {
+        self.earlier.row(node)
+    }
+
+    /// The arcs to these nodes, in the same order.
     #[inline]
     pub fn down(&self, node: u32) -> &[u32] {
         self.down.row(node)
     }
 
-    /// The arcs to a node from those that come after it.
+    /// The nodes that come right after one.
     #[inline]
-    pub fn up(&self, node: u32) -> &[u32] {
-        self.up.row(node)
+    pub fn later(&self, node: u32) -> &[u32] {
+        self.later.row(node)
+    }
+
+    /// The arc from the first of these nodes; the others have the arcs after it, in the same order.
+    #[inline]
+    pub fn first_up(&self, node: u32) -> u32 {
+        self.later.first(node)
     }
 
     /// What a node adds to the memory.

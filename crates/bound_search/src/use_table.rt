@@ -1,7 +1,7 @@
 //! The uses of a system's items, as the arcs of its network stand for them.
 
 use crate::NoMemory;
-use crate::kept_flow::NONE;
+use crate::legs::NONE;
 use crate::network::signed;
 use crate::tables::{amount_at, count_of, number_at};
 use shared_systems::SharedSystem;

@@ -11,9 +11,9 @@ use std::alloc::Global;
 // Whether a node comes right after one that is marked.
 fn is_after(network: &Network, marks: &[bool], node: u32) -> bool {
     network
-        .down(node)
+        .earlier(node)
         .iter()
-        .any(|arc| is_marked(marks, network.head(*arc)))
+        .any(|before| is_marked(marks, *before))
 }
 
 /// The tasks of a set, and all nodes that come after one of them. Linear.
@@ -47,9 +47,10 @@ pub fn flow_within(
     kept.spend(order.len());
     for node in order {
         if !is_marked(outside, *node) {
-            kept.add(network, *node)?;
+            kept.put(network, *node);
         }
     }
+    kept.drain_all(network)?;
     Ok(kept)
 }
 
@@ -64,7 +65,7 @@ pub fn cut_of(
     let outside = outside_of(alloc, network, order, &[task])?;
     let mut kept = flow_within(alloc, network, order, &outside, effort)?;
     let mut closure = Closure::new(alloc, network.nodes())?;
-    let steps = closure.set(network, task)?;
+    let steps = closure.set(network, kept.dead(), task)?;
     kept.spend(steps);
     let level = kept.force(network, closure.members(), crate::kept_flow::MUCH)?;
     let spent = kept.effort();

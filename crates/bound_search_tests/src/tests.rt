@@ -1,6 +1,6 @@
 //! Bounds of small systems, with the least peaks worked by hand.
 
-use bound_search::certify_bound;
+use bound_search::{CertifiedBound, NoMemory, certify_bound, certify_bound_below};
 use mp_system::GivenTask;
 use peak_bounds::{Event, Evidence};
 use shared_systems::{GivenSharedItem, SharedSystem, shared_system_of_arrays};
@@ -51,6 +51,28 @@ fn diamond(alloc: Global) -> Option<SharedSystem> {
     system_of(alloc, &tasks, &items, &[2, 3, 4, 4])
 }
 
+// The same the other way round: task 1 makes 5 for each of two tasks, which make 1 of it for one that needs 9 more. Whichever of these
+// runs first has at least 1 of the other branch beside it, and has 1 itself: 11, which the order 1 2 4 3 5 needs.
+fn branches(alloc: Global) -> Option<SharedSystem> {
+    let tasks = [task(0, 0), task(0, 0), task(9, 0), task(0, 0), task(9, 0)];
+    let items = [item(5, 1, 1), item(1, 2, 1), item(5, 1, 1), item(1, 4, 1)];
+    system_of(alloc, &tasks, &items, &[2, 3, 4, 5])
+}
+
+// Each task makes something of what the one before made. Task 2 reads 4 and makes 6.
+fn chain(alloc: Global) -> Option<SharedSystem> {
+    let tasks = [task(0, 0), task(0, 0), task(0, 0)];
+    let items = [item(4, 1, 1), item(6, 2, 1), item(1, 3, 0)];
+    system_of(alloc, &tasks, &items, &[2, 3])
+}
+
+// Task 4 reads what three others make, 3 + 1 + 1, and makes 2: these are there at once.
+fn late(alloc: Global) -> Option<SharedSystem> {
+    let tasks = [task(0, 0), task(0, 0), task(0, 0), task(0, 0)];
+    let items = [item(3, 1, 1), item(1, 2, 1), item(1, 3, 1), item(2, 4, 0)];
+    system_of(alloc, &tasks, &items, &[4, 4, 4])
+}
+
 // What shows a bound: the start, the need of a task, or that one of so many tasks runs first, or last.
 #[derive(Clone, Copy, Debug, PartialEq, Eq)]
 enum Shown {
@@ -71,12 +93,17 @@ fn shown_by(evidence: &Evidence) -> Shown {
     }
 }
 
-// The bound that is found with an effort, and what shows it.
-fn found(alloc: Global, system: Option<SharedSystem>, effort: u64) -> Option<(u64, Shown)> {
-    match certify_bound(alloc, &system?, effort) {
+// A bound, and what shows it.
+fn told(certified: Result<CertifiedBound, NoMemory>) -> Option<(u64, Shown)> {
+    match certified {
         Ok(certified) => Some((certified.bound, shown_by(&certified.evidence))),
         Err(_) => None,
     }
+}
+
+// The bound that is found with an effort, and what shows it.
+fn found(alloc: Global, system: Option<SharedSystem>, effort: u64) -> Option<(u64, Shown)> {
+    told(certify_bound(alloc, &system?, effort))
 }
 
 #[test]
@@ -85,6 +112,51 @@ fn the_last_leaf_has_something_beside_it(rt: HostRuntime) {
     assert_eq!(rt;
         found(alloc, tree(alloc), 100_000),
         Some((11, Shown::Last(2)))
+    );
+}
+
+#[test]
+fn the_search_begins_at_the_lowest_peak_known(rt: HostRuntime) {
+    let alloc = rt.alloc();
+    let Some(system) = tree(alloc) else {
+        assert_eq!(rt; true, false);
+        return;
+    };
+    assert_eq!(rt;
+        told(certify_bound_below(alloc, &system, 11, 100_000)),
+        Some((11, Shown::Last(2)))
+    );
+    // nothing above it is looked for
+    assert_eq!(rt;
+        told(certify_bound_below(alloc, &system, 10, 100_000)),
+        Some((10, Shown::Need(1)))
+    );
+}
+
+#[test]
+fn the_first_of_two_has_something_beside_it(rt: HostRuntime) {
+    let alloc = rt.alloc();
+    assert_eq!(rt;
+        found(alloc, branches(alloc), 100_000),
+        Some((11, Shown::First(2)))
+    );
+}
+
+#[test]
+fn a_chain_has_the_peak_of_one_need(rt: HostRuntime) {
+    let alloc = rt.alloc();
+    assert_eq!(rt;
+        found(alloc, chain(alloc), 100_000),
+        Some((10, Shown::Need(2)))
+    );
+}
+
+#[test]
+fn what_is_read_at_once_counts_at_once(rt: HostRuntime) {
+    let alloc = rt.alloc();
+    assert_eq!(rt;
+        found(alloc, late(alloc), 100_000),
+        Some((7, Shown::Need(4)))
     );
 }
 
