@@ -1,4 +1,5 @@
 pub mod BoundLemmas
+pub mod GraphPlanLemmas
 pub mod DemoLemmas
 pub mod FrontLemmas
 pub mod OneFile

@@ -34,7 +34,7 @@ use Rattle.reports.specs.Fronts.{IsFrontsOf}
 use Rattle.reports.specs.Post.{IsPost, post_answer}
 use Rattle.reports.specs.Replay.{IsReplayAnswer, IsReplayOf}
 use Rattle.requests.specs.Request.{Request, replay, tree, post, check, planning, simulate, demo, upgrade, spill, segments}
-use Rattle.requests.specs.Request.{check_graph, bounding, reduce, Upgrade, IsInRange, IsMakeable, TreeInput, matrix_named, Input, OrderSource}
+use Rattle.requests.specs.Request.{check_graph, plan_graph, bounding, reduce, Upgrade, IsInRange, IsMakeable, TreeInput, matrix_named, Input, OrderSource}
 use Rattle.requests.specs.Request.{TaskSource, input_tasks, graph_tasks, task_files}
 use Rattle.requests.specs.Request.{order_named, plan_named, Simulation, FileRole, NamedFile, tree_input_files, input_files}
 use Rattle.requests.specs.Request.{source_file, priority_file, priority_files, files_of, fronts, OrderedMatrix}
@@ -215,6 +215,7 @@ module _ (r : Reports) where
   one_report (check input plan workers) texts a b has decided is is' = checked_once input texts a b is is'
   one_report (check_graph graph name workers) texts a b has decided is is' = absurd decided
   one_report (planning input format) texts a b workers decided is is' = absurd decided
+  one_report (plan_graph graph order effort format) texts a b workers decided is is' = absurd decided
   one_report (simulate tasks source s) texts a b workers decided is is' = simulated_once tasks source s texts a b workers.0 is is'
   one_report (demo made) texts a b within decided is is' = r.demos made a b within is is'
   one_report (upgrade u) texts a b within decided is is' = one_upgrade_answer r.upgrades u texts a b is is'
@@ -301,6 +302,9 @@ module _ (r : Reports) where
   report_accepted (reduce name) texts a (text, stated, e, is, x) =
       subst (AreAccepted (files_of (reduce name)) []) (sym e)
       ((system_of_either stated, (is.0, stated_is_read (is_second text) text stated is.1)), tt)
+  report_accepted (plan_graph graph name effort format) texts a (text, rest, system, order, e, is, given, x) =
+      subst (AreAccepted (files_of (plan_graph graph name effort format)) []) (sym e)
+      ((system, is), given_accepted name (text ∷ []) rest order given)
   report_accepted (bounding graph name effort) texts a (text, rest, system, order, e, is, given, x) =
       subst (AreAccepted (files_of (bounding graph name effort)) []) (sym e)
       ((system, is), given_accepted name (text ∷ []) rest order given)

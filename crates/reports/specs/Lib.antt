@@ -4,6 +4,7 @@ pub mod Post
 pub mod Check
 pub mod CheckGraph
 pub mod Bound
+pub mod PlanGraph
 pub mod Plan
 pub mod Simulate
 pub mod Demo

@@ -1,13 +1,14 @@
 -- What each command promises of what it prints, beside that it is an answer.
 use Rattle.std.specs.Prelude.{◌≡◌, ◌≤◌, ℕ, List}
 use Rattle.requests.specs.Request.{Request, replay, tree, post, check, planning, simulate, demo, upgrade, spill, segments, fronts, reduce}
-use Rattle.requests.specs.Request.{check_graph, bounding, IsMakeable}
+use Rattle.requests.specs.Request.{check_graph, plan_graph, bounding, IsMakeable}
 use Rattle.judging.specs.Files.{Answer}
 use Rattle.reports.specs.Reports.{IsReport}
 use Rattle.reports.specs.Check.{IsCertified}
 use Rattle.reports.specs.CheckGraph.{IsBoundCertified}
 use Rattle.reports.specs.Bound.{IsBounded}
 use Rattle.reports.specs.Plan.{IsBestPlan}
+use Rattle.reports.specs.PlanGraph.{IsGraphPlanned}
 use Rattle.reports.specs.Simulate.{IsSimulated}
 use Rattle.reports.specs.Demo.{IsShown}
 use Rattle.reports.specs.Upgrade.{IsUpgraded}
@@ -39,6 +40,10 @@ Says (check_graph graph plan workers) texts ended printed = ended ≡ status.Don
 -- where a plan was made, what was printed is a plan file, or the JSON of its plan: the order is a traversal of the input's system, its
 -- peak is the one that the plan states, no traversal has a lower one, and `check` says yes to the file
 Says (planning input format) texts ended printed = ended ≡ status.Done → IsBestPlan input format texts printed
+-- where a plan of a task graph was made, what was printed is a plan file, or the JSON of its plan: the order is a traversal of the graph, no
+-- worse than the one that was given, its peak is the one that the plan states, no traversal has a peak below the bound, and `check` says yes
+-- to the file; the bound is the peak, which is least, wherever a series-parallel term tells the orders of the graph
+Says (plan_graph graph order effort format) texts ended printed = ended ≡ status.Done → IsGraphPlanned order format texts printed
 -- where a run was simulated to its end, its events are one activation, one start and one finish of each of the tasks, and
 -- memory stayed within the bound, which is at least the peak of the order
 Says (simulate tasks source simulation) texts ended printed = ended ≡ status.Done → IsSimulated tasks source simulation texts printed

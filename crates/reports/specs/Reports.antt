@@ -3,7 +3,7 @@
 use Rattle.std.specs.Prelude.{◌≡◌, ℕ, List, [], ◌⊎◌}
 use Rattle.trees.specs.declared.node.Node.{Node}
 use Rattle.requests.specs.Request.{Request, replay, tree, post, check, planning, simulate, demo, upgrade, spill, fronts, segments, reduce}
-use Rattle.requests.specs.Request.{check_graph, bounding, files_of}
+use Rattle.requests.specs.Request.{check_graph, plan_graph, bounding, files_of}
 use Rattle.reports.specs.Replay.{IsReplayOf}
 use Rattle.judging.specs.Files.{IsTreeOf, IsFirstRefusal, IsMatrixTree, Answer}
 use Rattle.reports.specs.Check.{IsCheckOf}
@@ -11,6 +11,7 @@ use Rattle.reports.specs.CheckGraph.{IsBoundCheckOf}
 use Rattle.reports.specs.Bound.{IsBoundOf}
 use Rattle.reports.specs.Simulate.{IsSimulationOf}
 use Rattle.reports.specs.Plan.{IsPlanOf}
+use Rattle.reports.specs.PlanGraph.{IsGraphPlanOf}
 use Rattle.reports.specs.Demo.{IsDemoOf}
 use Rattle.reports.specs.Tree.{tree_answer}
 use Rattle.reports.specs.Post.{IsPost}
@@ -28,6 +29,7 @@ IsReport (post input) texts answer = (nodes : List Node) × IsTreeOf input texts
 IsReport (check input plan workers) texts answer = IsCheckOf input texts answer
 IsReport (check_graph graph plan workers) texts answer = IsBoundCheckOf texts answer
 IsReport (planning input format) texts answer = IsPlanOf input format texts answer
+IsReport (plan_graph graph order effort format) texts answer = IsGraphPlanOf order format texts answer
 IsReport (simulate tasks source s) texts answer = IsSimulationOf tasks source s texts answer
 IsReport (demo made) texts answer = IsDemoOf made answer
 IsReport (upgrade u) texts answer = IsUpgradeOf u texts answer
@@ -37,11 +39,12 @@ IsReport (fronts m bound workers) texts answer = IsFrontsOf m bound workers text
 IsReport (reduce name) texts answer = IsReduceOf texts answer
 IsReport (bounding graph order effort) texts answer = IsBoundOf order texts answer
 
--- the files of a request decide its answer; but `plan` may print any plan of least peak with a certificate, `spill` the amounts of any
--- spill plan of least volume, `reduce` any term of a graph or any irreducible rest, `bound` any bound for which there is evidence, and
--- `check` may judge the claims of a plan on any term of a graph
+-- the files of a request decide its answer; but `plan` may print any plan of least peak with a certificate, or any of a graph, `spill` the
+-- amounts of any spill plan of least volume, `reduce` any term of a graph or any irreducible rest, `bound` any bound for which there is
+-- evidence, and `check` may judge the claims of a plan on any term of a graph
 abbrev pub IsDecided : Request → Type 0
 IsDecided (planning input format) = ⊥
+IsDecided (plan_graph graph order effort format) = ⊥
 IsDecided (spill tasks source bound) = ⊥
 IsDecided (reduce name) = ⊥
 IsDecided (bounding graph order effort) = ⊥

@@ -7,6 +7,7 @@ pub mod demo;
 pub mod fronts;
 pub mod gap_report;
 pub mod plan;
+pub mod plan_graph;
 pub mod post;
 pub mod reduce;
 pub mod replay;
@@ -50,6 +51,7 @@ pub fn report<R: Threads + Sync, F: Files, G: Gate>(
             check_graph::report_check_graph(rt, alloc, files, asked, gate)
         }
         Request::Plan(input, format) => plan::report_plan(alloc, files, input, format),
+        Request::PlanGraph(asked) => plan_graph::report_plan_graph(alloc, files, asked),
         Request::Simulate(asked) => simulate::report_simulate(alloc, files, asked),
         Request::Demo(made) => Ok(demo::report_demo(rt, alloc, made, gate)?),
         Request::Upgrade(asked) => upgrade::report_upgrade(alloc, files, asked),

@@ -172,7 +172,7 @@ pub fn one_list_of_rows()
 }
 
 /// A request has one answer over the texts of its files, and so the program prints what these decide; but `plan` may print any plan of
-/// least peak with a certificate, `spill` the amounts of any spill plan of least volume, `reduce` any term of a graph, or any reason why it
+/// least peak with a certificate, or any of a graph, `spill` the amounts of any spill plan of least volume, `reduce` any term of a graph, or any reason why it
 /// has none, `bound` any bound with its evidence, and `check` may judge the claims of a plan on any term of a graph.
 pub fn one_answer()
     ensures { (request : Request) (texts : List (List ℕ)) (one two : Answer) → IsInRange request → IsDecided request →
@@ -199,8 +199,8 @@ pub fn one_answer()
 /// An answer says what its request promises, command by command: a yes certifies, a plan is best, a trace is of a run that was simulated,
 /// what was upgraded is what the printed file says, what is spilled is a spill plan of least volume, printed levels are reached, and none
 /// below them, the rows of a front are a structure of the filled graph, the workflow of a task graph has the graph's traversals, a graph whose
-/// rest is told has no term, or one of version 2 none of that kind, and no traversal of a graph has a peak below a bound that is told or
-/// accepted. It follows from being an answer.
+/// rest is told has no term, or one of version 2 none of that kind, no traversal of a graph has a peak below a bound that is told or
+/// accepted, and `check` says yes to the plan of a graph. It follows from being an answer.
 pub fn what_answers_say()
     ensures { (request : Request) (texts : List (List ℕ)) (answer : Answer) → IsPossible request →
         IsAnswer request texts answer → Says request texts answer.status answer.text }
@@ -223,6 +223,8 @@ pub fn what_answers_say()
     shared_reduction_laws::names_law();
     bound_laws::evidence_law();
     bound_check_laws::accepted_law();
+    bounded_plan_laws::printed_plan();
+    bounded_plan_laws::printed_length();
     workflow_laws::named_workflow();
     one_demo();
     one_upgrade();

@@ -87,6 +87,8 @@ pub data Request : Type 0 where
   check_graph : List ℕ → List ℕ → ℕ → Request
   -- a traversal of least peak, with its certificate
   planning : Input → PlanFormat → Request
+  -- an order of a task graph, no worse than that of the file, if one is named, and a bound, with its evidence; with so much effort
+  plan_graph : List ℕ → Option (List ℕ) → ℕ → PlanFormat → Request
   -- the run of tasks on several workers within a bound, activated in an order
   simulate : TaskSource → OrderSource → Simulation → Request
   -- an input that is made, its plan, and whether the plan is accepted
@@ -313,6 +315,7 @@ files_of (check input plan workers) = input_files input ++ source_file (plan_nam
 files_of (check_graph graph plan workers) =
     record { role = shared_graph_file; name = graph } ∷ record { role = bounded_plan_file; name = plan } ∷ []
 files_of (planning input format) = input_files input
+files_of (plan_graph graph order effort format) = record { role = shared_graph_file; name = graph } ∷ order_files order
 files_of (simulate tasks source s) = task_files tasks ++ source_file source ∷ priority_files (priority_file tasks) s.priority
 files_of (demo made) = []
 files_of (upgrade u) = upgrade_files u

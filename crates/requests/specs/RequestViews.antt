@@ -68,6 +68,8 @@ request_view (commands.Post input) = requests.post (tree_input_view input)
 request_view (commands.Check c) = requests.check (input_view c.input) c.plan.now c.workers
 request_view (commands.CheckGraph c) = requests.check_graph c.graph.now c.plan.now c.workers
 request_view (commands.Plan input format) = requests.planning (input_view input) (format_view format)
+request_view (commands.PlanGraph p) =
+    requests.plan_graph p.graph.now (option_map (λ name. name.now) p.order) p.effort (format_view p.format)
 request_view (commands.Simulate names) = requests.simulate (tasks_view names.tasks) (source_view names.source) (simulation_view names)
 request_view (commands.Demo made) = requests.demo made
 request_view (commands.Upgrade u) = requests.upgrade (upgrade_view u)

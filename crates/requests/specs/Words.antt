@@ -5,7 +5,7 @@ use Rattle.std.specs.Prelude.{find, map}
 use Rattle.std.specs.Prelude.{String, string_bytes}
 use Rattle.requests.specs.Request.{Request, TaskSource, input_tasks, graph_tasks, bounding, effort_or_default, check, check_graph}
 use Rattle.requests.specs.Request.{input_of, workers_or_one, demo, gives_any, number_given, number_up_to}
-use Rattle.requests.specs.Request.{fronts, ordering_of, planning, is_second, format_of}
+use Rattle.requests.specs.Request.{fronts, ordering_of, planning, plan_graph, PlanFormat, is_second, format_of}
 use Rattle.requests.specs.Request.{post, tree_input_of, reduce, replay, tasks_of, source_of, segments}
 use Rattle.requests.specs.Request.{simulate, spill, tree, matrix_of}
 use Rattle.requests.specs.Request.{upgrade, Upgrade, tree_upgrade, workflow_upgrade, graph_upgrade, plan_upgrade}
@@ -88,12 +88,22 @@ fronts_of options =
     (ordering_of (value_of (codes "perm") options) (value_of (codes "ordering") options)))
     (value_of (codes "matrix") options)
 
--- `plan`, one input, and `--print text` or `--print json` if it is given
+-- the plan of an input, with which neither an order nor an effort goes, or of a task graph
+abbrev pub planned_as : TaskSource → PlanFormat → List Given → Option Request
+planned_as (input_tasks input) format options =
+    if gives_any (codes "order" ∷ codes "effort" ∷ []) options then None else Some (planning input format)
+planned_as (graph_tasks graph) format options =
+    option_map (λ effort. plan_graph graph (value_of (codes "order") options) effort format)
+    (effort_or_default (value_of (codes "effort") options))
+
+-- `plan`, one input or task graph, and `--print text` or `--print json` if it is given; with a task graph, `--order NAME` and `--effort E`
+-- if they are given
 abbrev pub plan_of : List Given → Option Request
 plan_of options =
-    option_and_then (λ input.
-    option_map (λ json. planning input (format_of json)) (is_second (codes "text") (codes "json") (value_of (codes "print") options)))
-    (input_of options)
+    option_and_then (λ tasks.
+    option_and_then (λ json. planned_as tasks (format_of json) options)
+    (is_second (codes "text") (codes "json") (value_of (codes "print") options)))
+    (tasks_of options)
 
 -- `post` and a tree or a matrix
 abbrev pub post_of : List Given → Option Request
@@ -169,7 +179,7 @@ commands =
     ∷ record { name = codes "tree"; options = matrix_names; asks = tree_request_of }
     ∷ record { name = codes "post"; options = tree_names; asks = post_of }
     ∷ record { name = codes "check"; options = codes "plan" ∷ codes "workers" ∷ task_names; asks = check_of }
-    ∷ record { name = codes "plan"; options = codes "print" ∷ input_names; asks = plan_of }
+    ∷ record { name = codes "plan"; options = codes "print" ∷ codes "order" ∷ codes "effort" ∷ task_names; asks = plan_of }
     ∷ record {
       name = codes "simulate";
       options = codes "order" ∷ codes "plan" ∷ codes "bound" ∷ codes "workers" ∷ codes "priority" ∷ task_names;

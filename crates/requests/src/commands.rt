@@ -43,7 +43,11 @@ static COMMANDS: [Shape; 13] = [
     },
     Shape {
         name: "plan",
-        options: &[&["print"], INPUT, MATRIX_OPTIONS],
+        options: &[
+            &["print", "order", "effort", "graph"],
+            INPUT,
+            MATRIX_OPTIONS,
+        ],
     },
     Shape {
         name: "simulate",

@@ -11,6 +11,7 @@ pub use commands::bound::Bounding;
 pub use commands::check::{Check, GraphCheck};
 pub use commands::demo::Demo;
 pub use commands::fronts::FrontRun;
+pub use commands::plan::GraphPlan;
 pub use commands::replay::Replay;
 pub use commands::request_of;
 pub use commands::simulate::Simulation;

@@ -10,6 +10,7 @@ use crate::commands::bound::Bounding;
 use crate::commands::check::{Check, GraphCheck};
 use crate::commands::demo::Demo;
 use crate::commands::fronts::FrontRun;
+use crate::commands::plan::GraphPlan;
 use crate::commands::replay::Replay;
 use crate::commands::simulate::Simulation;
 use crate::commands::spill::Spilling;
@@ -99,6 +100,8 @@ pub enum Request<'a> {
     CheckGraph(GraphCheck<'a>),
     /// A traversal of least peak, with its certificate.
     Plan(Input<'a>, PlanFormat),
+    /// An order of a task graph, and what no order has a peak below, with evidence.
+    PlanGraph(GraphPlan<'a>),
     /// The run of tasks on several workers within a bound, activated in the order.
     Simulate(Simulation<'a>),
     /// An input that is made, its plan, and whether the plan is accepted.

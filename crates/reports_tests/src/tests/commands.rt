@@ -30,13 +30,20 @@ const IDLE: &str = "graph 2\ntasks 0\nitems 1\n12 0\nend\n";
 
 const BOUNDED: &str = "plan 3\norder 0\npeak 12\nbound 12\nneed 0\nend\n";
 
+// Task 3 reads what task 1 makes, task 4 what tasks 1 and 2 make: that is no series-parallel graph. In the one order of least peak task 3 runs
+// beside the 5 that it reads, and makes 2; and an order whose peak is 8.
+const ZIGZAG: &str =
+    "graph 2\ntasks 4\n0 0 1\n0 0 1\n0 0 1\n0 0 1\nitems 4\n5 1 3\n0 1 4\n3 2 4\n2 3\nend\n";
+
+const WORSE: &str = "1 2 3 4\n";
+
 // One task with a block of its own.
 const ONE: &str = "tree 1\nnodes 1\n0 7 2 1\nend\n";
 
 #[rattlefmt::skip]
 pub const FILES: Texts = &[
     ("t", FIVE), ("o", "1 3 2 4 5\n"), ("p", "5 4 3 2 1\n"), ("m", ARROW), ("q", TURNED), ("g", GRAPH), ("h", CHAIN), ("s", PLAN), ("u", ONE), ("i", IDLE),
-    ("b", BOUNDED),
+    ("b", BOUNDED), ("z", ZIGZAG), ("w", WORSE),
 ];
 
 // ---- runs
@@ -58,6 +65,8 @@ pub const REDUCE: &str = "reduce --graph g";
 pub const BOUND: &str = "bound --graph i";
 
 pub const CHECK_GRAPH: &str = "check --graph i --plan b --workers 2";
+
+pub const PLAN_GRAPH: &str = "plan --graph z --order w";
 
 // ---- what they print
 
@@ -81,6 +90,9 @@ pub const WORKFLOW: &str =
     "workflow 1\ntasks 4\ndata 0\ndata 6\ndata 2\ntask 3 1\ndata 5\ndata 1\ntask 2 1\npar 2\ndata 0\ntask 0 1\ntask 0 1\nend\n\
     # 1 3\n# 2 2\n# 3 4\n# 4 1\n";
 
+// The need of task 3 is what no order has a peak below.
+pub const PLAN_OF_ZIGZAG: &str = "plan 3\norder 4\n1\n3\n2\n4\npeak 7\nbound 7\nneed 3\nend\n";
+
 #[rattlefmt::skip]
 const ANSWERS: &[(&str, &str)] = &[
     (REPLAY, "peak 11\n"),
@@ -95,6 +107,7 @@ const ANSWERS: &[(&str, &str)] = &[
     (REDUCE, WORKFLOW),
     (BOUND, "bound 12\nneed 0\nend\n"),
     (CHECK_GRAPH, "yes 12 least\n"),
+    (PLAN_GRAPH, PLAN_OF_ZIGZAG),
     ("reduce --graph h", "workflow 1\ntasks 2\ndata 7\ndata 0\ndata 2\ntask 1 1\npar 2\ndata 0\ntask 1 1\nend\n# 1 1\n# 2 2\n"),
     ("upgrade --tree t", "tree 2\nnodes 5\n2 1 9 0 1\n5 5 0 0 1\n4 1 9 0 1\n5 5 0 0 1\n0 0 0 0 1\nend\n"),
     // a root alone, with a block of 850 and an extra of 764

@@ -1,8 +1,8 @@
 //! Loads and writes that fail, and sinks that are full.
 
 use super::commands::{
-    ABREAST, BOTH, BOUND, CHECK_GRAPH, FILES, FRONTS, OF_FIVE, PLANNING, REDUCE, REPLAY, SEGMENTS,
-    SIMULATE, SPILL, TIGHT, WORKFLOW,
+    ABREAST, BOTH, BOUND, CHECK_GRAPH, FILES, FRONTS, OF_FIVE, PLAN_GRAPH, PLAN_OF_ZIGZAG, PLANNING,
+    REDUCE, REPLAY, SEGMENTS, SIMULATE, SPILL, TIGHT, WORKFLOW,
 };
 use super::{check_run, files_of, run_into};
 use mp_outside::MemSink;
@@ -30,6 +30,11 @@ const OF_IDLE: u64 = 11 + 1;
 
 const OF_BOUNDED: u64 = 15 + 1;
 
+// Of the graph that is not series-parallel there are 74 bytes, of an order of its tasks 8.
+const OF_ZIGZAG: u64 = 25 + 1;
+
+const OF_WORSE: u64 = 3 + 1;
+
 // Runs, the loads of each, and all that it prints.
 #[rattlefmt::skip]
 const RUNS: &[(&str, u64, &str)] = &[
@@ -41,6 +46,7 @@ const RUNS: &[(&str, u64, &str)] = &[
     (REDUCE, OF_GRAPH, WORKFLOW),
     (BOUND, OF_IDLE, "bound 12\nneed 0\nend\n"),
     (CHECK_GRAPH, OF_IDLE + OF_BOUNDED, "yes 12 least\n"),
+    (PLAN_GRAPH, OF_ZIGZAG + OF_WORSE, PLAN_OF_ZIGZAG),
 ];
 
 // What a run without faults prints. A plan may be any of least peak: whether it is one is tested elsewhere.

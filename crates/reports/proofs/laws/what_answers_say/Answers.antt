@@ -7,11 +7,12 @@ use Rattle.shared_graph_files.specs.EitherVersion.{StatesAs}
 use Rattle.reports.specs.Reduce.{are_second}
 use Rattle.reports.specs.Promises.{done_answer}
 use Rattle.requests.specs.Request.{Request, replay, tree, post, check, planning, simulate, demo, upgrade, spill, segments, fronts, reduce}
-use Rattle.requests.specs.Request.{check_graph, bounding}
+use Rattle.requests.specs.Request.{check_graph, plan_graph, bounding}
 use Rattle.judging.specs.declared.status.Status.TheVariants.{Done}
 use Rattle.reports.proofs.RunLemmas.{report_when_done, report_of_rest}
 use Rattle.reports.proofs.SoundAnswer.{certified, best, simulated}
 use Rattle.reports.proofs.BoundLemmas.{bounded, bound_certified}
+use Rattle.reports.proofs.GraphPlanLemmas.{graph_planned}
 use Rattle.reports.proofs.UpgradeLemmas.{upgraded}
 use Rattle.reports.proofs.SpillLemmas.{spilled_tasks}
 use Rattle.reports.proofs.StairsLemmas.{reached}
@@ -45,6 +46,9 @@ returns c (planning input format) texts answer possible is = λ done.
     c.read_law.ensures c.terms_law.ensures.denotes c.accepted_law.ensures.own
     c.accepted_law.ensures.renamed c.printed_plan.ensures.text c.printed_length.ensures.text
     input format texts answer (report_when_done (planning input format) texts answer is done)
+returns c (plan_graph graph order effort format) texts answer possible is = λ done.
+    graph_planned c.read_law-3.ensures c.accepted_law-2.ensures.bound c.printed_plan-2.ensures c.printed_length-2.ensures
+    order format texts answer (report_when_done (plan_graph graph order effort format) texts answer is done) done
 returns c (simulate tasks source simulation) texts answer possible is = λ done.
     simulated c.one_input.ensures.tasks c.schedule_law.ensures.legal c.schedule_law.ensures.each_once c.schedule_law.ensures.within
     tasks source simulation texts answer possible (report_when_done (simulate tasks source simulation) texts answer is done) done
