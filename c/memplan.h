@@ -290,6 +290,35 @@ uint32_t memplan_replay_shared(const memplan_task *tasks, size_t count, const me
                                const uint32_t *readers, size_t reader_count, const uint32_t *order, size_t places, uint64_t *peak,
                                memplan_fault *fault);
 
+/* The effort of memplan_plan_shared where nothing else is known: that of the program's command plan for a task graph. */
+#define MEMPLAN_EFFORT 1000000000
+
+/* A plan where an item may have any number of readers: an order, its peak, and a bound that no order has a peak below.
+ *
+ * tasks, items, readers, and their numbers, as for memplan_replay_shared
+ * start, start_count      an order of the caller's to begin with; where start_count is 0, the plan begins with the order breadth first, and
+ *                         start is any pointer that is not null
+ * effort                  how much is searched for a better order and a better bound, where there is no term: MEMPLAN_EFFORT, or any other
+ *                         number; with 0 hardly anything. It is counted in steps, about so many for a thousand tasks and more for more,
+ *                         up to some 20 times as many: the same call gives the same plan on any machine (tested alone)
+ * order, places           where the order goes; places must be count
+ * peak, bound             where its peak and the bound go
+ *
+ * MEMPLAN_DONE    order is a traversal: it has each task once, after those that produce what it reads; *peak is its peak, and is not above
+ *                 that of start, where there is one; no traversal has a peak below *bound. So where *bound is *peak no order has a lower
+ *                 peak. They are the same, whatever the effort, but where the command reduce makes no series-parallel term of the tasks, since
+ *                 there is none or it would have too many arcs.
+ * MEMPLAN_NO      the first place at which start is no traversal.
+ * MEMPLAN_USAGE   room, or there are not as many readers as the items say.
+ * MEMPLAN_FORMAT  the first of the tests that fails, with the lowest task or the first item that fails it.
+ * else            MEMPLAN_LIMIT, MEMPLAN_NO_MEMORY.
+ *
+ * Near linear in the tasks, the items and the readers where there is a term; elsewhere by the effort, some 100 million steps a second, and
+ * no less than linear. */
+uint32_t memplan_plan_shared(const memplan_task *tasks, size_t count, const memplan_shared_item *items, size_t item_count,
+                             const uint32_t *readers, size_t reader_count, const uint32_t *start, size_t start_count, uint64_t effort,
+                             uint32_t *order, size_t places, uint64_t *peak, uint64_t *bound, memplan_fault *fault);
+
 /* ---- the activation core: tasks on several workers within a bound on memory ----
  *
  * Whoever runs the tasks embeds it. Tasks are activated along an order, which books their memory; an activated task whose suppliers are

@@ -1,6 +1,6 @@
 ! Two chains of two nodes below a root: an order of least peak, and the core run along it by one worker; the fronts of a matrix of four
-! columns, of which the first is joined to all others; and three tasks that read one input of 10. Prints both peaks; ends with an error
-! where something is not as it was worked by hand.
+! columns, of which the first is joined to all others; and three tasks that read one input of 10, whose plan is better than the order that it
+! begins with. Prints both peaks; ends with an error where something is not as it was worked by hand.
 program five
    use, intrinsic :: iso_c_binding, only: c_int32_t, c_int64_t, c_loc, c_ptr, c_size_t
    use memplan
@@ -60,16 +60,20 @@ contains
 
    subroutine fork(core)
       type(c_ptr), intent(in) :: core
-      integer(c_int32_t), parameter :: readers(6) = [1, 2, 3, 4, 4, 4], in_turn(4) = [1, 2, 3, 4]
+      integer(c_int32_t), parameter :: readers(6) = [1, 2, 3, 4, 4, 4], in_turn(4) = [1, 2, 3, 4], other_way(4) = [3, 2, 1, 4]
+      integer(c_int32_t) :: found(4)
       type(memplan_task) :: tasks(4)
       type(memplan_shared_item) :: items(5)
-      integer(c_int64_t) :: needed
+      integer(c_int64_t) :: needed, best_peak, bound
       tasks%extra = [6, 1, 0, 0]
       items%size = [10, 3, 4, 5, 2]
       items%from = [0, 1, 2, 3, 4]
       items%readers = [3, 1, 1, 1, 0]
       status = memplan_replay_shared(tasks, 4_c_size_t, items, 5_c_size_t, readers, 6_c_size_t, in_turn, 4_c_size_t, needed, fault)
       if (status /= memplan_done .or. needed /= 22) error stop 'readers'
+      status = memplan_plan_shared(tasks, 4_c_size_t, items, 5_c_size_t, readers, 6_c_size_t, other_way, 4_c_size_t, &
+         memplan_effort, found, 4_c_size_t, best_peak, bound, fault)
+      if (status /= memplan_done .or. best_peak /= 22 .or. bound /= 22) error stop 'a plan with readers'
       status = memplan_core_begin_shared(core, tasks, 4_c_size_t, items, 5_c_size_t, readers, 6_c_size_t, in_turn, 4_c_size_t, &
          needed, 1, fault)
       if (status /= memplan_done .or. memplan_core_used(core) /= 10) error stop 'a core with readers'

@@ -66,8 +66,11 @@ module memplan
    ! Shapes.
    integer(c_int32_t), parameter, public :: memplan_triangle = 0, memplan_square = 1
 
+   ! The effort of memplan_plan_shared where nothing else is known.
+   integer(c_int64_t), parameter, public :: memplan_effort = 1000000000_c_int64_t
+
    public :: memplan_plan_tree, memplan_certify_tree, memplan_check_tree, memplan_best_postorder, memplan_replay_tree
-   public :: memplan_spill_tree, memplan_fronts, memplan_replay_system, memplan_replay_shared
+   public :: memplan_spill_tree, memplan_fronts, memplan_replay_system, memplan_replay_shared, memplan_plan_shared
    public :: memplan_core_size, memplan_core_new, memplan_core_begin, memplan_core_begin_system, memplan_core_begin_shared
    public :: memplan_core_activate, memplan_core_start, memplan_core_finish, memplan_core_is_startable, memplan_core_is_done
    public :: memplan_core_used, memplan_core_booked, memplan_core_end
@@ -173,6 +176,20 @@ module memplan
          type(memplan_fault), intent(inout) :: fault
          integer(c_int32_t) :: status
       end function memplan_replay_shared
+
+      function memplan_plan_shared(tasks, count, items, item_count, readers, reader_count, start, start_count, effort, order, &
+         places, peak, bound, fault) result(status) bind(c)
+         import :: c_int32_t, c_int64_t, c_size_t, memplan_task, memplan_shared_item, memplan_fault
+         type(memplan_task), intent(in) :: tasks(*)
+         type(memplan_shared_item), intent(in) :: items(*)
+         integer(c_size_t), value :: count, item_count, reader_count, start_count, places
+         integer(c_int32_t), intent(in) :: readers(*), start(*)
+         integer(c_int64_t), value :: effort
+         integer(c_int32_t), intent(inout) :: order(*)
+         integer(c_int64_t), intent(inout) :: peak, bound
+         type(memplan_fault), intent(inout) :: fault
+         integer(c_int32_t) :: status
+      end function memplan_plan_shared
 
       function memplan_core_size() result(bytes) bind(c)
          import :: c_size_t

@@ -27,6 +27,7 @@ static void lines_of_c_readme(void)
 {
 #include "c_readme_lines.h"
     CHECK(status == MEMPLAN_DONE && peak == 11 && order[4] == 5 && needed == 22);
+    CHECK(found == 22 && bound == 22 && better[0] == 1 && better[3] == 4);
 }
 
 int main(void)

@@ -5,7 +5,7 @@
 #include <sys/resource.h>
 #include <unistd.h>
 
-enum { COUNT = 300000, CALLS = 10, PLACES = 28 };
+enum { COUNT = 300000, CALLS = 11, PLACES = 28 };
 
 static memplan_node *nodes;
 static uint32_t *order;
@@ -83,6 +83,8 @@ static uint32_t call(int which, memplan_fault *fault)
         return memplan_fronts(1, starts, COUNT + 1, rows, COUNT, order, COUNT, &triangles, fronts, COUNT, &second, front_of, COUNT, fault);
     case 7: return memplan_replay_shared(tasks, COUNT, items, COUNT, readers, COUNT - 1, order, COUNT, &peak, fault);
     case 8: return memplan_core_begin_shared(core, tasks, COUNT, items, COUNT, readers, COUNT - 1, order, COUNT, 3, 1, fault);
+    case 9:
+        return memplan_plan_shared(tasks, COUNT, items, COUNT, readers, COUNT - 1, readers, 0, 0, order, COUNT, &peak, &second, fault);
     default: return memplan_core_begin(core, nodes, COUNT, order, COUNT, 3, 1, fault);
     }
 }

@@ -20,17 +20,20 @@ from ._numbers import BOOLS, U32, U64, back, column, columns_of, columns_with_li
 from ._types import Array, Matrix, Rows, SharedItems, WholeNumbers
 
 __all__ = [
+    "EFFORT",
     "Certificate",
     "Core",
     "Fronts",
     "Refused",
     "SharedItem",
+    "SharedPlan",
     "__version__",
     "best_postorder",
     "certify",
     "check",
     "fronts",
     "plan",
+    "plan_shared",
     "replay",
     "replay_shared",
     "replay_system",
@@ -184,6 +187,23 @@ class SharedItem(NamedTuple):
     readers: Sequence[int] = ()
 
 
+EFFORT = 1_000_000_000
+"""The effort of `plan_shared` where nothing else is said: that of the program's command ``plan`` for a task graph."""
+
+
+class SharedPlan(NamedTuple):
+    """An order of tasks, its peak, and a bound that no order has a peak below."""
+
+    order: Array
+    peak: int
+    bound: int
+
+    @property
+    def is_least(self) -> bool:
+        """Whether the bound shows that no order has a lower peak. Where it does not, the peak may still be least."""
+        return self.bound == self.peak
+
+
 _Signature = Tuple[Any, List[Any]]  # a call's result and its arguments
 
 
@@ -210,6 +230,7 @@ def _signatures() -> Tuple[Dict[str, _Signature], Dict[str, _Signature]]:
         "fronts": (u32, [u32] + order + order + order + options + nodes + number + order + fault),
         "replay_system": (u32, system + order + number + fault),
         "replay_shared": (u32, shared + order + number + fault),
+        "plan_shared": (u32, shared + order + [u64] + order + number + number + fault),
         "core_begin": (u32, core + nodes + order + [u64, u32] + fault),
         "core_begin_system": (u32, core + system + order + [u64, u32] + fault),
         "core_begin_shared": (u32, core + shared + order + [u64, u32] + fault),
@@ -483,6 +504,26 @@ def replay_shared(tasks: WholeNumbers, items: SharedItems, order: WholeNumbers) 
     peak, fault = ctypes.c_uint64(), _Fault()
     _answer(_plans.memplan_replay_shared(*system, places, length, ctypes.byref(peak), ctypes.byref(fault)), fault)
     return peak.value
+
+
+def plan_shared(
+    tasks: WholeNumbers, items: SharedItems, start: Optional[WholeNumbers] = None, effort: SupportsIndex = EFFORT
+) -> SharedPlan:
+    """A plan of tasks that hand items to each other, as in `replay_shared`: an order, its peak, and a bound that no order has a peak below.
+
+    Where a series-parallel term tells the orders of the tasks, the peak is least, and the bound is the peak, whatever the effort. Elsewhere
+    ``effort`` says how much is searched for an order and a bound: about so many steps for a thousand tasks, some 100 million a second, and
+    more for more tasks. The plan begins
+    with ``start``, if that is given, and its peak is not above that order's; `Refused` with the first place at which that is no traversal.
+    """
+    system, (places, length) = _shared(tasks, items), numbers("start[{}]", () if start is None else start)
+    steps, count = whole("effort", effort, U64), system[1]
+    if start is not None and length == 0 and count > 0:
+        raise ValueError("start: it has no place")
+    order, peak, bound, fault = (ctypes.c_uint32 * max(count, 1))(), ctypes.c_uint64(), ctypes.c_uint64(), _Fault()
+    found = ctypes.byref(peak), ctypes.byref(bound), ctypes.byref(fault)
+    _answer(_plans.memplan_plan_shared(*system, places, length, steps, order, count, *found), fault)
+    return SharedPlan(back(view(order, count)), peak.value, bound.value)
 
 
 class Core:

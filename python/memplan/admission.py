@@ -15,14 +15,17 @@ from itertools import islice
 from operator import index
 from typing import Collection, Dict, List, Optional, Sequence, Set, SupportsIndex, Tuple
 
-from . import Core, Refused, SharedItem, plan, replay_shared
+from . import Core, Refused, SharedItem, plan, plan_shared, replay_shared
 from ._numbers import U32, U64, column, whole
 from ._types import WholeNumbers
 
-__all__ = ["MOST_RUNNING", "Admission", "BoundTooLow", "Graph", "GraphRefused"]
+__all__ = ["EFFORT_OF_A_RUN", "MOST_RUNNING", "Admission", "BoundTooLow", "Graph", "GraphRefused"]
 
 MOST_RUNNING = 4096
 """How many tasks may run at once: as many as a core has workers."""
+
+EFFORT_OF_A_RUN = 10_000_000
+"""How much is searched for a better order before a run: some tenths of a second for a thousand tasks."""
 
 _FORMAT = 3
 _CYCLE = 17
@@ -157,18 +160,31 @@ class Graph:
 
     @property
     def is_forest(self) -> bool:
-        """Whether each result either has one consumer or stays: only then an order of least peak is planned."""
+        """Whether each result either has one consumer or stays: then `planned` has an order of least peak."""
         return all(len(users) + (task in self.kept) == 1 for task, users in enumerate(self.consumers))
 
     def planned(self) -> List[int]:
         """An order of least peak of a forest."""
         if not self.is_forest:
-            raise ValueError("a result has several consumers: there is no plan, so give an order")
+            raise ValueError("a result has several consumers: take planned_from, or give an order")
         try:
             order, _ = plan(self.owners, self.sizes, self.extras)
         except Refused as refusal:
             raise self.told(refusal) from None
         return [int(task) - 1 for task in order]
+
+    def planned_from(self, start: WholeNumbers, effort: SupportsIndex = EFFORT_OF_A_RUN) -> List[int]:
+        """An order of any graph whose peak is not above that of the order ``start``: of least peak where `memplan.plan_shared` has one, else
+        the best that it finds with so much effort."""
+        numbered = self.numbered(start)
+        if not numbered:
+            self.least_bound(start)  # refused, but where there is no task
+        tasks, items = self.system()
+        try:
+            found = plan_shared(tasks, items, numbered, effort)
+        except Refused as refusal:
+            raise self.told(refusal, start) from None
+        return [int(task) - 1 for task in found.order]
 
     def least_bound(self, order: WholeNumbers) -> int:
         """The peak of an order, which is the least bound along it."""

@@ -23,6 +23,13 @@ class Bounds(Case):
         self.assertEqual(shared().least_bound([0, 1, 2, 3]), 14)
         self.assertEqual(shared().least_bound([0, 2, 1, 3]), 12)
 
+    # After 0 one of 1 and 2 runs while the 5 is there and what the other leaves is not: 2, which needs more, goes first.
+    def test_a_plan_is_never_worse_than_its_start(self) -> None:
+        self.assertEqual(shared().planned_from([0, 1, 2, 3]), [0, 2, 1, 3])
+        self.assertEqual(shared().planned_from([0, 2, 1, 3], 0), [0, 2, 1, 3])
+        self.assertLessEqual(shared().least_bound(shared().planned_from([0, 1, 2, 3], 0)), 14)
+        self.assertEqual(Graph([], [], []).planned_from([]), [])
+
     def test_a_bound_that_is_too_low(self) -> None:
         with self.assertRaises(BoundTooLow) as caught:
             Admission(shared(), 13, [0, 1, 2, 3])
@@ -102,6 +109,7 @@ class Refusals(Case):
 
     def check_order(self, order: Sequence[int], *told: Any) -> None:
         self.assertEqual(self.told(shared().least_bound, order), told)
+        self.assertEqual(self.told(shared().planned_from, order), told)
         self.assertEqual(self.told(Admission, shared(), 99, order), told)
 
     def test_orders_that_are_none(self) -> None:

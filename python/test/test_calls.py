@@ -153,6 +153,32 @@ class Readers(Case):
         self.assertEqual(memplan.replay_shared([7], [], [1]), 7)
         self.assertEqual(memplan.replay_shared([0], [memplan.SharedItem(3, 0)], [1]), 3)
 
+    def test_a_plan_of_readers(self) -> None:
+        for start in (None, [3, 2, 1, 4]):
+            plan = memplan.plan_shared(FORK, FORKED, start)
+            self.assertEqual((plan.peak, plan.bound, plan.is_least), (22, 22, True))
+            self.assertEqual(memplan.replay_shared(FORK, FORKED, plan.order), 22)
+        self.assertEqual(tuple(memplan.plan_shared([], [(7, 0, [])]))[1:], (7, 7))
+
+    # 1 makes 10 that 3 and 4 read, and 2 makes 3 for 4 alone: no term tells these orders. 4 needs 14 for itself, and 16 after 3.
+    def test_a_plan_is_never_worse_than_its_start(self) -> None:
+        tasks, items = [0] * 4, [(10, 1, [3, 4]), (3, 2, [4]), (2, 3, []), (1, 4, [])]
+        for start, effort, most in (([1, 3, 2, 4], 0, 16), ([2, 1, 4, 3], 0, 14), ([1, 3, 2, 4], memplan.EFFORT, 14)):
+            plan = memplan.plan_shared(tasks, items, start, effort)
+            self.assertTrue(plan.bound <= 14 <= plan.peak <= most)
+            self.assertEqual(memplan.replay_shared(tasks, items, plan.order), plan.peak)
+            self.assertEqual(plan.is_least, plan.bound == plan.peak)
+
+    def test_the_plan_of_a_diamond_needs_no_effort(self) -> None:
+        shared = [(size, maker, [user] if user else []) for size, maker, user in ITEMS]
+        plan = memplan.plan_shared(TASKS, shared, [1, 3, 2, 4], 0)
+        self.assertEqual((list(plan.order), plan.peak, plan.bound), ([1, 2, 3, 4], 13, 13))
+
+    def test_a_start_that_is_refused(self) -> None:
+        self.assertEqual(self.refused(memplan.plan_shared, FORK, FORKED, [1, 2, 4, 3]), (1, 22, 3, 0))
+        self.assertEqual(self.refused(memplan.plan_shared, FORK, FORKED, [1, 2, 3]), (1, 23, 4, 0))
+        self.says(ValueError, "start: it has no place", memplan.plan_shared, FORK, FORKED, [])
+
     def test_items_of_one_reader_are_those_of_a_system(self) -> None:
         shared = [(size, maker, [user] if user else []) for size, maker, user in ITEMS]
         for order in ([1, 2, 3, 4], [1, 3, 2, 4]):
@@ -176,6 +202,7 @@ class Readers(Case):
         ):
             items = put(FORKED, at, item)
             self.assertEqual(self.refused(memplan.replay_shared, FORK, items, [1, 2, 3, 4]), told)
+            self.assertEqual(self.refused(memplan.plan_shared, FORK, items), told)
             self.assertEqual(self.refused(memplan.Core.of_shared, FORK, items, [1, 2, 3, 4], 22, 2), told)
         self.assertEqual(self.refused(memplan.replay_shared, FORK, FORKED, [1, 2, 4, 3]), (1, 22, 3, 0))
         self.assertEqual(self.refused(memplan.replay_shared, put(FORK, 1, 2**40 + 1), FORKED, [1, 2, 3, 4]), (4, 14, 2, 0))
@@ -220,7 +247,8 @@ class Results(Case):
         self.assertEqual((fronts.parent - 1).tolist(), [2, 2, -1])
         order, _ = memplan.plan(fronts.parent, fronts.out, fronts.extra, fronts.share)
         amounts, _ = memplan.spill(PARENT, OUT, EXTRA, IN_TURN, 11)
-        arrays = [*fronts, order, memplan.best_postorder(PARENT, OUT, EXTRA)[0], memplan.certify(PARENT, OUT, EXTRA).order, amounts]
+        orders = [order, memplan.best_postorder(PARENT, OUT, EXTRA)[0], memplan.plan_shared(FORK, FORKED).order]
+        arrays = [*fronts, *orders, memplan.certify(PARENT, OUT, EXTRA).order, amounts]
         self.assertEqual({str(array.dtype) for array in arrays}, {"int64"})
 
     @unittest.skipIf(numpy, "there is numpy")

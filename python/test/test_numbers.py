@@ -77,6 +77,8 @@ SYSTEMS = [
     Place("items[0].from", 32, lambda it: memplan.replay_shared(FORK, put(FORKED, 0, (1, it, [1, 2])), [1, 2, 3, 4])),
     Place("items[0].readers[1]", 32, lambda it: memplan.replay_shared(FORK, put(FORKED, 0, (1, 0, [1, it])), [1, 2, 3, 4])),
     Place("order[0]", 32, lambda it: memplan.replay_shared(FORK, FORKED, [it, 2, 3, 4])),
+    Place("start[0]", 32, lambda it: memplan.plan_shared(FORK, FORKED, [it, 2, 3, 4])),
+    Place("effort", 64, lambda it: memplan.plan_shared(FORK, FORKED, effort=it)),
 ]
 CORES = [
     Place("bound", 64, lambda it: memplan.Core.of_tree(PARENT, OUT, EXTRA, ACROSS, it, 2)),
@@ -104,6 +106,7 @@ ADMISSION = [
     Place("extras[1]", 64, lambda it: of_graph(extras=[1, it])),
     Place("kept[0]", 32, lambda it: of_graph(kept=[it])),
     Place("order[1]", 32, lambda it: of_graph().least_bound([0, it])),
+    Place("order[1]", 32, lambda it: of_graph().planned_from([0, it])),
     Place("order[0]", 32, lambda it: Admission(of_graph(), 9, [it, 1])),
     Place("bound", 64, lambda it: Admission(of_graph(), it, [0, 1])),
     Place("task", 32, lambda it: Admission(of_graph(), 9, [0, 1]).start(it)),

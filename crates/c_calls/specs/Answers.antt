@@ -1,5 +1,5 @@
 -- What the calls answer where they are not refused.
-use Rattle.std.specs.Prelude.{◌≡◌, ◌==◌, ℕ, ◌≤◌, if◌then◌else◌, List, [], map}
+use Rattle.std.specs.Prelude.{◌≡◌, ◌≢◌, ◌==◌, ℕ, ◌≤◌, ◌⊎◌, if◌then◌else◌, List, [], map}
 use Rattle.mp_system.specs.Memory.{peak_of}
 use Rattle.mp_system.specs.System.{IsSystem}
 use Rattle.mp_system.specs.Traversal.{IsTraversal}
@@ -8,7 +8,8 @@ use Rattle.mp_system.specs.declared.given.GivenTask.{GivenTask}
 use Rattle.mp_system.specs.Given.{system_given}
 use Rattle.shared_systems.specs.Bounds.{IsSharedSystem}
 use Rattle.shared_systems.specs.SharedMemory.{shared_peak_of}
-use Rattle.shared_systems.specs.SharedTraversal.{IsSharedTraversal}
+use Rattle.shared_systems.specs.SharedTraversal.{IsSharedTraversal, IsLeastShared}
+use Rattle.shared_systems.specs.Shared.{SharedTaskSystem}
 use Rattle.shared_systems.specs.declared.given.GivenSharedItem.{GivenSharedItem}
 use Rattle.shared_systems.specs.Given.{shared_system_given}
 use Rattle.sp_terms.specs.declared.position.Position.{Position}
@@ -21,6 +22,7 @@ use Rattle.claim_check.specs.Accepted.{IsAccepted}
 use Rattle.postorder_best.specs.Postorder.{IsTreePostorder}
 use Rattle.postorder_best.specs.BestPostorder.{IsBestPostorder}
 use Rattle.spill_plan.specs.SpillPlans.{IsLeastSpill}
+use Rattle.bound_check.specs.Objections.{IsWithoutTerm}
 use Rattle.least_peak.specs.Best.{IsBestTraversal}
 use Rattle.least_peak.specs.Problem.{IsTermOf}
 use Rattle.least_peak.specs.declared.problem.Origin.TheVariants as origins
@@ -62,6 +64,24 @@ pub record IsSharedReplayed (tasks : List GivenTask) (items : List GivenSharedIt
   pub system : IsSharedSystem (shared_system_given tasks items readers)
   pub traversal : IsSharedTraversal (shared_system_given tasks items readers) order
   pub peak_is : peak ≡ shared_peak_of (shared_system_given tasks items readers) order
+
+-- the bound is the peak, and no traversal has a lower one
+pub record IsLeastFound (system : SharedTaskSystem) (peak bound : ℕ) : Type 0 where
+  pub met : bound ≡ peak
+  pub least : IsLeastShared system peak
+
+-- tasks, items and readers that are a system; an order that is a traversal of it, with this peak; and a bound, which no traversal has a
+-- peak below. The peak is least, and the bound is the peak, or no series-parallel term tells the orders of the system; and the peak is at
+-- most that of the order at the start, where that has a place
+pub record IsSharedPlanned (tasks : List GivenTask) (items : List GivenSharedItem) (readers start order : List ℕ) (peak bound : ℕ) : Type 0 where
+  pub system : IsSharedSystem (shared_system_given tasks items readers)
+  pub traversal : IsSharedTraversal (shared_system_given tasks items readers) order
+  pub peak_is : peak ≡ shared_peak_of (shared_system_given tasks items readers) order
+  pub below_none : (other : List ℕ) → IsSharedTraversal (shared_system_given tasks items readers) other
+      → bound ≤ shared_peak_of (shared_system_given tasks items readers) other
+  pub least_or_not : IsLeastFound (shared_system_given tasks items readers) peak bound
+      ⊎ IsWithoutTerm (shared_system_given tasks items readers)
+  pub no_worse : start ≢ [] → peak ≤ shared_peak_of (shared_system_given tasks items readers) start
 
 -- ---- plans with claims
 

@@ -1,10 +1,12 @@
 -- Why each call is refused: what a refusal of it says. Want of memory says nothing, and a refusal that a call does not name has no cause.
-use Rattle.std.specs.Prelude.{◌≡◌, ◌≢◌, ℕ, ◌+◌, ◌-◌, ◌*◌, ◌<◌, ◌≤◌, All, List, length, map, take}
+use Rattle.std.specs.Prelude.{◌≡◌, ◌≢◌, ℕ, ◌+◌, ◌-◌, ◌*◌, ◌<◌, ◌≤◌, All, List, [], length, map, take}
 use Rattle.limits.specs.Limits.{most_tasks, most_positions, most_total, most_workers}
 use Rattle.mp_system.specs.Refusal.{IsOrderRefusal}
 use Rattle.mp_system.specs.System.{IsSystem}
 use Rattle.mp_system.specs.declared.given.GivenItem.{GivenItem}
 use Rattle.mp_system.specs.declared.given.GivenTask.{GivenTask}
+use Rattle.mp_system.specs.declared.order.ReplayRefusal.{ReplayRefusal}
+use Rattle.mp_system.specs.declared.order.ReplayRefusal.TheVariants as replays
 use Rattle.mp_system.specs.Given.{system_given}
 use Rattle.mp_system.specs.Judged.{IsSystemRefusal}
 use Rattle.sp_terms.specs.declared.position.Position.{Position}
@@ -16,6 +18,7 @@ use Rattle.claim_check.specs.Accepted.{IsObjection}
 use Rattle.claim_check.specs.declared.objection.Objection.{Objection}
 use Rattle.shared_systems.specs.Bounds.{IsSharedSystem}
 use Rattle.shared_systems.specs.OneReader.{shared_of}
+use Rattle.shared_systems.specs.Shared.{SharedTaskSystem}
 use Rattle.shared_systems.specs.SharedTraversal.{IsSharedOrderRefusal}
 use Rattle.shared_systems.specs.declared.given.GivenSharedItem.{GivenSharedItem}
 use Rattle.shared_systems.specs.Given.{shared_system_given}
@@ -167,6 +170,21 @@ IsSharedReplayRefusal tasks items readers order (refusals.Replay refusal) =
     × IsSharedOrderRefusal (shared_system_given tasks items readers) order refusal
 IsSharedReplayRefusal tasks items readers order refusals.NoMemory = Unit {0}
 IsSharedReplayRefusal tasks items readers order other = ⊥
+
+-- an order to begin with, which has a place, is no traversal
+abbrev pub IsStartRefusal : SharedTaskSystem → List ℕ → ReplayRefusal → Type 0
+IsStartRefusal system start (replays.Order fault) = (start ≢ []) × IsSharedOrderRefusal system start (replays.Order fault)
+IsStartRefusal system start replays.NoMemory = Unit {0}
+
+-- a plan, from an order to begin with if one is given, with room for an order
+abbrev pub IsSharedPlanRefusal : List GivenTask → List GivenSharedItem → List ℕ → List ℕ → ℕ → Refusal → Type 0
+IsSharedPlanRefusal tasks items readers start room (refusals.Room needed) = IsRoomRefused (length tasks) room needed
+IsSharedPlanRefusal tasks items readers start room (refusals.Shared refusal) = IsSharedRefusal tasks items readers refusal
+IsSharedPlanRefusal tasks items readers start room (refusals.Replay refusal) =
+    IsSharedSystem (shared_system_given tasks items readers)
+    × IsStartRefusal (shared_system_given tasks items readers) start refusal
+IsSharedPlanRefusal tasks items readers start room refusals.NoMemory = Unit {0}
+IsSharedPlanRefusal tasks items readers start room other = ⊥
 
 -- a core for an order of the tasks, a bound and so many workers
 abbrev pub IsSharedBeginRefusal : List GivenTask → List GivenSharedItem → List ℕ → List ℕ → ℕ → ℕ → Refusal → Type 0

@@ -14,6 +14,7 @@ pub mod laws;
 mod orders;
 mod refusal;
 mod replays;
+mod shared_plans;
 pub mod slot;
 pub mod statuses;
 
@@ -24,4 +25,5 @@ pub use fronts::{GivenOptions, matrix_fronts};
 pub use orders::{best_postorder, plan_tree};
 pub use refusal::{PlanFault, Refusal};
 pub use replays::{replay_shared, replay_system, replay_tree, spill_tree};
+pub use shared_plans::plan_shared;
 pub use slot::Slot;

@@ -4,6 +4,7 @@ mod arrays;
 mod cores;
 mod fronts;
 mod readers;
+mod shared_plans;
 
 use c_calls::Fault;
 use mp_system::{GivenItem, GivenTask};

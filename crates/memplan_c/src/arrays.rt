@@ -5,11 +5,12 @@ ghost use Rattle.c_calls.specs.Answers.{IsBestOrder, IsBestPost, IsReplayed, IsT
 ghost use Rattle.c_calls.specs.Faults.{IsRefusedFor};
 ghost use Rattle.c_calls.specs.Fronts.{AreFronts, IsMatrixFrontsRefusal, matrix_given, options_given};
 ghost use Rattle.c_calls.specs.Refusals.{IsPlanningRefusal, IsReplayRefusal, IsSpillCallRefusal, IsCheckRefusal, IsCertifyRefusal};
-ghost use Rattle.c_calls.specs.Refusals.{IsSystemReplayRefusal, IsSharedReplayRefusal};
+ghost use Rattle.c_calls.specs.Answers.{IsSharedPlanned};
+ghost use Rattle.c_calls.specs.Refusals.{IsSystemReplayRefusal, IsSharedReplayRefusal, IsSharedPlanRefusal};
 
 use c_calls::{
-    Claim, Fault, GivenOptions, best_postorder, certify_tree, check_tree, matrix_fronts, plan_tree,
-    replay_shared, replay_system, replay_tree, spill_tree,
+    Claim, Fault, GivenOptions, best_postorder, certify_tree, check_tree, matrix_fronts,
+    plan_shared, plan_tree, replay_shared, replay_system, replay_tree, spill_tree,
 };
 use mp_system::{GivenItem, GivenTask};
 use shared_systems::GivenSharedItem;
@@ -172,6 +173,36 @@ pub extern "C" fn memplan_replay_shared(
     ensures no_fault { result ≡ 0 → fault.new ≡ fault.old }
 {
     replay_shared(alloc, tasks, items, readers, order, peak, fault)
+}
+
+/// An order of tasks that hand data items to each other, each to any number of readers; its peak; and a bound that no order has a peak below.
+/// The readers of all items stand in one array, item by item. The plan begins with the order `start`, and is never worse, or with that
+/// breadth first where `start` has no place.
+#[unsafe(no_mangle)]
+pub extern "C" fn memplan_plan_shared(
+    alloc: Global,
+    tasks: &[GivenTask],
+    items: &[GivenSharedItem],
+    readers: &[u32],
+    start: &[u32],
+    effort: u64,
+    order: &mut [u32],
+    peak: &mut u64,
+    bound: &mut u64,
+    fault: &mut Fault,
+) -> u32
+    // 0: the order is a traversal of the system of these tasks, items and readers, with this peak; none has one below the bound, and this
+    // one's is no higher than that of the start
+    ensures planned { result ≡ 0 → IsSharedPlanned tasks.now items.now readers.now start.now order.new peak.new bound.new }
+    // else the room is refused, or the tasks, items and readers, or the start, or memory is wanting
+    ensures refused { result ≢ 0 → IsRefusedFor
+        (IsSharedPlanRefusal tasks.now items.now readers.now start.now (length order.old)) result fault.new }
+    ensures unchanged { result ≢ 0 → (order.new ≡ order.old) × (peak.new ≡ peak.old) × (bound.new ≡ bound.old) }
+    ensures no_fault { result ≡ 0 → fault.new ≡ fault.old }
+{
+    plan_shared(
+        alloc, tasks, items, readers, start, effort, order, peak, bound, fault,
+    )
 }
 
 /// The tree of the fronts of a matrix that is eliminated in an order, or in that of minimum degree where none is given, at the front of the
