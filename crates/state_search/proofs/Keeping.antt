@@ -1,0 +1,196 @@
+-- One more state is kept; states that are kept are reached below the bound.
+use Rattle.std.proofs.Common.{◌≡◌, ◌≢◌, ℕ, zero, suc, ◌+◌, ◌≤◌, ◌<◌, Bool, true, false, ◌||◌, eqb, eq-eqb, List, [], ◌∷◌, ◌++◌, ◌⊎◌, inl, inr}
+use Rattle.std.proofs.Common.{length, get_or, reverse, refl, sym, ap, subst, ◌∙◌, arith}
+use Rattle.std.specs.Prelude.{All}
+use Rattle.std.proofs.lemmas.List.{get_or_append_left, length-append, length-replicate, reverse-append}
+use Rattle.std.proofs.lemmas.List.Elements.{All-from_get_or}
+use Rattle.std.proofs.lemmas.Bool.{cases_eq, cases_lt, or_cases, or_left, eqb-true}
+use Rattle.std.proofs.Math.Seq.{get_or-append_seam}
+use Rattle.mp_system.specs.Memory.{stands_in}
+use Rattle.shared_systems.specs.Shared.{SharedTaskSystem}
+use Rattle.shared_systems.proofs.Steps.{stands_push, stands_more}
+use Rattle.state_search.specs.declared.states.Link.{Link}
+use Rattle.state_search.specs.States.{none_done, with_done, state_at, IsStepBelow, IsReachedBelow, start, step, HasManyStates}
+use Rattle.state_search.specs.Runs.{IsLow, IsKept, Runs}
+use Rattle.state_search.specs.Kept.{KeptStates, link_at, IsNew, IsReachedBy, AreReached, Extends}
+use Rattle.state_search.proofs.TaskMarks.{done_length}
+use Rattle.state_search.proofs.Runs.{runs_cons}
+
+abbrev pub no_link : Link
+no_link = record { before = 0; task = 0 }
+
+module _ (rows more : List (List Bool)) (marks : List Bool) (is : more ≡ rows ++ marks ∷ []) where
+  pub long : length more ≡ length rows + 1
+  long = omega (arith, ap (λ (l : List (List Bool)). length l) is, length-append rows (marks ∷ []))
+
+  pub before_it : (i : ℕ) → i < length rows → state_at more i ≡ state_at rows i
+  before_it i lt = ap (λ (l : List (List Bool)). state_at l i) is ∙ get_or_append_left rows (marks ∷ []) [] i lt
+
+  pub there : (i : ℕ) → i ≡ length rows → state_at more i ≡ marks
+  there i here = ap (state_at more) here ∙ ap (λ (l : List (List Bool)). state_at l (length rows)) is ∙ get_or-append_seam rows marks [] []
+
+  module _ (system : SharedTaskSystem) (bound : ℕ) where
+    carried : (i : ℕ) (link : Link) (row : List Bool) → i ≤ length rows → IsReachedBy system bound rows i link row
+        → IsReachedBy system bound more i link row
+    carried i link row le by =
+        let e = sym (before_it link.before (omega (arith, by.earlier))) in
+        record {
+          earlier = by.earlier;
+          low = subst (IsLow system bound) e by.low;
+          step = subst (λ (m : List Bool). IsStepBelow system bound m link.task) e by.step;
+          row_is = by.row_is ∙ ap (λ (m : List Bool). with_done m link.task) e;
+        }
+
+-- ---- a state that is kept
+
+module _ (system : SharedTaskSystem) (bound : ℕ) (old new : KeptStates) (link : Link) (marks : List Bool)
+    (rows_are : new.rows ≡ old.rows ++ marks ∷ []) (links_are : new.links ≡ old.links ++ link ∷ [])
+    (was : AreReached system bound old) (by : IsReachedBy system bound old.rows (length old.rows) link marks) (fresh : IsNew old.rows marks) where
+  longer : length new.rows ≡ length old.rows + 1
+  longer = long old.rows new.rows marks rows_are
+
+  link_before : (i : ℕ) → i < length old.rows → link_at new.links i ≡ link_at old.links i
+  link_before i lt = ap (λ (l : List Link). link_at l i) links_are ∙ get_or_append_left old.links (link ∷ []) no_link i (omega (arith, lt, was.links))
+
+  link_there : (i : ℕ) → i ≡ length old.rows → link_at new.links i ≡ link
+  link_there i here =
+      let at : i ≡ length old.links = here ∙ sym was.links in
+      ap (link_at new.links) at ∙ ap (λ (l : List Link). link_at l (length old.links)) links_are ∙ get_or-append_seam old.links link [] no_link
+
+  reached : (i : ℕ) → 0 < i → i < length new.rows → IsReachedBy system bound new.rows i (link_at new.links i) (state_at new.rows i)
+  reached i some lt = elim (cases_lt i (length old.rows)) [
+    | inl earlier ↦
+        subst (λ (l : Link). IsReachedBy system bound new.rows i l (state_at new.rows i)) (sym (link_before i earlier))
+        (subst (λ (m : List Bool). IsReachedBy system bound new.rows i (link_at old.links i) m) (sym (before_it old.rows new.rows marks rows_are i earlier))
+        (carried old.rows new.rows marks rows_are system bound i (link_at old.links i) (state_at old.rows i) (omega arith) (was.reached i some earlier)))
+    | inr last ↦ (
+        let here : i ≡ length old.rows = omega (arith, last, lt, longer) in
+        subst (λ (l : Link). IsReachedBy system bound new.rows i l (state_at new.rows i)) (sym (link_there i here))
+        (subst (λ (m : List Bool). IsReachedBy system bound new.rows i link m) (sym (there old.rows new.rows marks rows_are i here))
+        (subst (λ (k : ℕ). IsReachedBy system bound new.rows k link marks) (sym here)
+        (carried old.rows new.rows marks rows_are system bound (length old.rows) link marks (omega arith) by))))
+  ]
+
+  apart : (i j : ℕ) → i < j → j < length new.rows → state_at new.rows i ≢ state_at new.rows j
+  apart i j lt inside same =
+      let first = before_it old.rows new.rows marks rows_are i (omega (arith, lt, inside, longer)) in
+      elim (cases_lt j (length old.rows)) [
+        | inl earlier ↦ was.apart i j lt earlier (sym first ∙ same ∙ before_it old.rows new.rows marks rows_are j earlier)
+        | inr last ↦ (
+            let here : j ≡ length old.rows = omega (arith, last, inside, longer) in
+            fresh i (omega (arith, lt, here)) (sym first ∙ same ∙ there old.rows new.rows marks rows_are j here))
+      ]
+
+  pub reached_more : AreReached system bound new
+  reached_more = record {
+    some = omega (arith, longer);
+    links = omega (arith, longer, ap (λ (l : List Link). length l) links_are, length-append old.links (link ∷ []), was.links);
+    start = before_it old.rows new.rows marks rows_are 0 was.some ∙ was.start;
+    reached = reached;
+    apart = apart;
+  }
+
+-- ---- what waits
+
+eqb_same : (v : ℕ) → eqb v v ≡ true
+eqb_same v = eq-eqb v v refl
+
+pub extends_same : (rows : List (List Bool)) (waiting : List ℕ) → Extends rows waiting rows waiting
+extends_same rows waiting = record {
+  longer = omega arith;
+  same = λ i lt. refl;
+  waits = λ i e. e;
+  fresh = λ i low high. absurd (omega (arith, low, high));
+  inside = λ all i e. all i e;
+  balanced = omega arith;
+}
+
+module _ (rows more : List (List Bool)) (waiting later : List ℕ) (marks : List Bool) (n : ℕ) (n_is : n ≡ length rows)
+    (rows_are : more ≡ rows ++ marks ∷ []) (waiting_are : later ≡ waiting ++ n ∷ []) where
+  pushed : (i : ℕ) → stands_in later i ≡ (stands_in waiting i || eqb n i)
+  pushed i = ap (λ (l : List ℕ). stands_in l i) waiting_are ∙ stands_push waiting n i
+
+  or_right : (b : Bool) → (b || true) ≡ true
+  or_right true = refl
+  or_right false = refl
+
+  pub extends_more : Extends rows waiting more later
+  extends_more = record {
+    longer = omega (arith, long rows more marks rows_are);
+    same = λ i lt. before_it rows more marks rows_are i lt;
+    waits = λ i e. pushed i ∙ or_left (stands_in waiting i) (eqb n i) e;
+    fresh = λ i low high.
+        let here : n ≡ i = omega (arith, low, high, long rows more marks rows_are, n_is) in
+        pushed i ∙ ap (λ (b : Bool). stands_in waiting i || b) (eq-eqb n i here) ∙ or_right (stands_in waiting i);
+    inside = λ all i e. elim (or_cases (stands_in waiting i) (eqb n i) (sym (pushed i) ∙ e)) [
+      | inl old ↦ omega (arith, all i old, long rows more marks rows_are)
+      | inr last ↦ omega (arith, eqb-true n i last, n_is, long rows more marks rows_are)
+    ];
+    balanced = omega (arith, long rows more marks rows_are, ap (λ (l : List ℕ). length l) waiting_are, length-append waiting (n ∷ []));
+  }
+
+module _ (rows : List (List Bool)) (waiting : List ℕ) (more : List (List Bool)) (later : List ℕ) (most : List (List Bool)) (last : List ℕ)
+    (one : Extends rows waiting more later) (two : Extends more later most last) where
+  pub extends_both : Extends rows waiting most last
+  extends_both = record {
+    longer = omega (arith, one.longer, two.longer);
+    same = λ i lt. two.same i (omega (arith, lt, one.longer)) ∙ one.same i lt;
+    waits = λ i e. two.waits i (one.waits i e);
+    fresh = λ i low high. elim (cases_lt i (length more)) [
+      | inl within ↦ two.waits i (one.fresh i low within)
+      | inr past ↦ two.fresh i past high
+    ];
+    inside = λ all i e. two.inside (one.inside all) i e;
+    balanced = omega (arith, one.balanced, two.balanced);
+  }
+
+pub kept_on : (rows : List (List Bool)) (waiting : List ℕ) (more : List (List Bool)) (later : List ℕ) (marks : List Bool)
+    → Extends rows waiting more later → IsKept rows marks → IsKept more marks
+kept_on rows waiting more later marks extends kept = record {
+  place = kept.place;
+  inside = omega (arith, kept.inside, extends.longer);
+  is = extends.same kept.place kept.inside ∙ kept.is;
+}
+
+-- ---- the states that are kept are reached
+
+module _ (system : SharedTaskSystem) (bound : ℕ) (states : KeptStates) (are : AreReached system bound states) where
+  reaches : (n i : ℕ) → i < n → i < length states.rows → IsReachedBelow system bound (state_at states.rows i)
+  reaches zero i lt inside = absurd (omega arith)
+  reaches (suc n) zero lt inside = subst (IsReachedBelow system bound) (sym are.start) start
+  reaches (suc n) (suc i) lt inside =
+      let by = are.reached (suc i) (omega arith) inside in
+      let before = reaches n (link_at states.links (suc i)).before (omega (arith, by.earlier, lt)) (omega (arith, by.earlier, inside)) in
+      subst (IsReachedBelow system bound) (sym by.row_is) (step before by.step)
+
+  row_lengths : (n i : ℕ) → i < n → i < length states.rows → length (state_at states.rows i) ≡ length system.tasks
+  row_lengths zero i lt inside = absurd (omega arith)
+  row_lengths (suc n) zero lt inside = ap (λ (m : List Bool). length m) are.start ∙ length-replicate (length system.tasks) false
+  row_lengths (suc n) (suc i) lt inside =
+      let by = are.reached (suc i) (omega arith) inside in
+      let link = link_at states.links (suc i) in
+      ap (λ (m : List Bool). length m) by.row_is ∙ done_length (state_at states.rows link.before) link.task
+      ∙ row_lengths n link.before (omega (arith, by.earlier, lt)) (omega (arith, by.earlier, inside))
+
+  -- a mark for each task
+  pub row_length : (i : ℕ) → i < length states.rows → length (state_at states.rows i) ≡ length system.tasks
+  row_length i inside = row_lengths (i + 1) i (omega arith) inside
+
+  pub many_states : (most : ℕ) → most < length states.rows → HasManyStates system bound most
+  many_states most many = record {
+    states = states.rows;
+    many = many;
+    apart = are.apart;
+    reached = All-from_get_or (IsReachedBelow system bound) states.rows [] (λ i lt. reaches (i + 1) i (omega arith) lt);
+  }
+
+  -- what runs from a state runs from the one before it, after the task between them
+  pub runs_back : (i : ℕ) (link : Link) → 0 < i → i < length states.rows → link ≡ link_at states.links i
+      → (tasks more : List ℕ) → more ≡ tasks ++ link.task ∷ [] → Runs system bound (state_at states.rows i) (reverse tasks)
+      → Runs system bound (state_at states.rows link.before) (reverse more)
+  runs_back i link some inside is tasks more more_is runs =
+      let by = subst (λ (l : Link). IsReachedBy system bound states.rows i l (state_at states.rows i)) (sym is) (are.reached i some inside) in
+      let turned : reverse more ≡ link.task ∷ reverse tasks = ap (λ (l : List ℕ). reverse l) more_is ∙ reverse-append tasks (link.task ∷ []) in
+      subst (λ (l : List ℕ). Runs system bound (state_at states.rows link.before) l) (sym turned)
+      (runs_cons system bound (state_at states.rows link.before) link.task (reverse tasks) by.low by.step
+      (subst (λ (m : List Bool). Runs system bound m (reverse tasks)) by.row_is runs))

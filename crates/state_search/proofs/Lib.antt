@@ -1,0 +1,11 @@
+pub mod TaskMarks
+pub mod Answered
+pub mod StepLists
+pub mod ItemSums
+pub mod TaskNeeds
+pub mod Runs
+pub mod FoundRows
+pub mod Keeping
+pub mod Closing
+pub mod Following
+pub mod Exploring

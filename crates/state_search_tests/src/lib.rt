@@ -1,0 +1,5 @@
+//! Tests of `state_search`, over its public functions.
+#![tactic(auto)]
+
+#[cfg(test)]
+mod tests;
