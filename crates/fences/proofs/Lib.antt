@@ -1,0 +1,16 @@
+pub mod Swaps
+pub mod Cuts
+pub mod Going
+pub mod Along
+pub mod Fencing
+pub mod Keeping
+pub mod Sizes
+pub mod Judging
+pub mod Accepting
+pub mod Chains
+pub mod ChainAmounts
+pub mod Reaching
+pub mod Progress
+pub mod Orderings
+pub mod FencedLists
+pub mod Refusals

@@ -1,0 +1,15 @@
+use Rattle.std.proofs.Common.{sym, subst}
+use Rattle.fences.specs.Runs.{BoundsRuns}
+use Rattle.fences.proofs.Accepting.{handed}
+use Rattle.fences.proofs.judged.judge_amounts.Goals as goal
+
+pub bound_of-requires-clause-amounts : goal.bound_of-requires-clause-amounts
+bound_of-requires-clause-amounts c = handed c.args.system.now c.args.amounts.now c.in_ok-judge.ensures
+
+pub returns-clause-handed_on : goal.returns-clause-handed_on
+returns-clause-handed_on c = handed c.args.system.now c.args.amounts.now c.in_ok-judge.ensures
+
+pub returns-clause-runs : goal.returns-clause-runs
+returns-clause-runs c =
+    let amounts = handed c.args.system.now c.args.amounts.now c.in_ok-judge.ensures in
+    subst (BoundsRuns c.args.system.now) (sym c.in_ok-bound.ensures) (c.fence_law.ensures.run c.args.system.now c.args.amounts.now c.keeps.ensures.items amounts)

@@ -1,0 +1,9 @@
+pub mod Moments
+pub mod Runs
+pub mod Amounts
+pub mod Judged
+pub mod Fences
+pub mod Orders
+pub mod JudgedFences
+pub mod TaskSums
+pub mod Samples
