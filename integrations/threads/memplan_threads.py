@@ -34,14 +34,15 @@ def graph_of(tasks: Sequence[Task]) -> Graph:
 def run(tasks: Sequence[Task], bound: int, workers: int, order: Optional[Sequence[int]] = None) -> Dict[int, Any]:
     """Runs the tasks on so many threads with at most ``bound`` bytes of results and extras; the results that stay, by their tasks.
 
-    Without an ``order`` the tasks run along a plan of least peak where each result has one consumer, and as they stand elsewhere.
+    Without an ``order`` the tasks run along a plan of least peak where each result has one consumer. Elsewhere the plan begins with the
+    tasks as they stand, each after its inputs, and is never worse; ``range(len(tasks))`` is that order itself.
     Raises `TypeError` or `OverflowError` where a size, an extra or the bound is no whole number that the library takes,
     `memplan.admission.GraphRefused`, which counts tasks from 0, `memplan.admission.BoundTooLow`, or what a task raises, once the tasks
     that run by then have ended.
     """
     graph = graph_of(tasks)
     if order is None and not graph.is_forest:
-        order = range(len(tasks))
+        order = graph.planned_from(range(len(tasks)))
     admission = Admission(graph, bound, order)
     results: Dict[int, Any] = {}
     ended: SimpleQueue[Tuple[int, Future[None]]] = SimpleQueue()

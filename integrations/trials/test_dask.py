@@ -38,6 +38,7 @@ from memplan_dask import (
     Task,
     TaskFailed,
     WorkerLost,
+    dask_order,
     least_bound,
     of_collection,
     run,
@@ -96,6 +97,15 @@ def computes_what_dask_computes(client: Client) -> None:
         result = rebuild(run(tasks, least_bound(tasks, client), client))
         assert numpy.array_equal(result.compute(), client.compute(collection).result())
         del result
+    leaves_nothing(client)
+
+
+def is_no_worse_than_dasks_order(client: Client) -> None:
+    tasks = workloads.random_graph(80).tasks
+    kept, least = least_bound(tasks, client, dask_order(tasks)), least_bound(tasks, client)
+    assert 0 < least <= kept and least == least_bound(tasks, client)
+    for bound, order in ((least, None), (kept, dask_order(tasks))):
+        assert raised(BoundTooLow, run, tasks, bound - 1, client, order).least == bound
     leaves_nothing(client)
 
 
@@ -377,6 +387,7 @@ CHECKS_ON_ANY_CLUSTER: List[Tuple[str, Check]] = [
         for factor in (1, 1.2, 2)
     ),
     ("an array's graph within its least bound", keeps_the_bound_of_an_array),
+    ("a plan is no worse than Dask's order", is_no_worse_than_dasks_order),
     ("arrays are what Dask computes", computes_what_dask_computes),
     ("several collections are computed together", several_collections_are_computed_together),
     ("what a task raises ends the run", what_a_task_raises_ends_the_run),

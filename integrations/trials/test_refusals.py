@@ -14,7 +14,8 @@ import dask
 import dask.array
 import numpy
 from clusters import cluster, leaves_nothing
-from dask.delayed import delayed
+from dask.delayed import Delayed, delayed
+from dask.highlevelgraph import HighLevelGraph, MaterializedLayer
 from distributed import Client, Future
 from harness import raised, run_all
 from memplan import Refused
@@ -141,6 +142,13 @@ def what_has_none_is_not_refused(client: Client) -> None:
 # Annotations
 
 
+class Shuffled(MaterializedLayer):
+    """A layer with priorities that Dask has put there, as those of a shuffle of a DataFrame."""
+
+    def __init__(self, mapping: Dict[str, Any]) -> None:
+        super().__init__(mapping, annotations={"priority": {"__expanded_annotations__": None, **dict.fromkeys(mapping, 1)}})
+
+
 def annotations_are_refused(client: Client) -> None:
     for annotation, value, instead in (
         ("retries", 2, "retries"),
@@ -161,6 +169,8 @@ def annotations_are_refused(client: Client) -> None:
         assert "around the run" in str(raised_by_run)
     tasks, rebuild = of_collection(delayed(identity)(1), sizes)
     assert rebuild(run(tasks, 200 * KB, client)).compute() == (1,), "without any there is nothing to refuse"
+    tasks, rebuild = of_collection(Delayed("one", HighLevelGraph({"one": Shuffled({"one": (identity, 1)})}, {"one": set()})), sizes)
+    assert rebuild(run(tasks, 200 * KB, client)).compute() == (1,), "what Dask says of a layer of its own is not refused"
     leaves_nothing(client)
 
 

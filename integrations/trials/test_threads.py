@@ -43,7 +43,8 @@ def keeps_its_bound(make: Any, factor: float) -> None:
     tasks = topological(make())
     wanted = in_turn(tasks)
     graph = graph_of(tasks)
-    bound = int(factor * graph.least_bound(graph.planned() if graph.is_forest else range(len(tasks))))
+    order = graph.planned() if graph.is_forest else graph.planned_from(range(len(tasks)))
+    bound = int(factor * graph.least_bound(order))
     blocks.taken_records()
     results = run(tasks, bound, workers=4)
     assert {index: blocks.digest(result) for index, result in results.items()} == wanted
@@ -77,6 +78,17 @@ def shared_results_are_held() -> None:
     assert admission.left == 1 and admission.used == 4 + 5 + 1, "the shared result is not gone yet"
     admission.gone(1)
     assert admission.left == 0 and admission.used == 5
+
+
+# The input of all three goes with the last of them, which is best the one that needs least; as they stand that is the one that needs most.
+def a_plan_is_better_than_the_tasks_as_they_stand() -> None:
+    tasks = [Task(int, (), (), 10), Task(lambda _: 1, (), (0,), 5), Task(lambda _: 1, (), (0,), 4, 1), Task(lambda _: 1, (), (0,), 3, 6)]
+    tasks.append(Task(lambda *_: 2, (), (1, 2, 3), 2))
+    graph = graph_of(tasks)
+    assert graph.least_bound(range(5)) == 28 and graph.least_bound(graph.planned_from(range(5))) == 22
+    assert run(tasks, 22, 2) == {4: 2}
+    assert raised(BoundTooLow, run, tasks, 21, 2).least == 22
+    assert raised(BoundTooLow, run, tasks, 27, 2, range(5)).least == 28
 
 
 def bounds_below_the_peak_are_refused() -> None:
@@ -129,6 +141,7 @@ CHECKS = [
         for factor in (1, 1.2, 2)
     ),
     ("threads: shared results are held until their last consumer is finished", shared_results_are_held),
+    ("threads: a plan is better than the tasks as they stand", a_plan_is_better_than_the_tasks_as_they_stand),
     ("threads: bounds below the peak are refused", bounds_below_the_peak_are_refused),
     ("threads: sizes that are no whole numbers are refused", fractions_are_refused),
     ("threads: wrong graphs are refused", wrong_graphs_are_refused),

@@ -18,7 +18,7 @@ from .errors import (  # noqa: E402
     WorkerLost,
 )
 from .runner import least_bound, run  # noqa: E402
-from .tasks import Task, of_collection  # noqa: E402
+from .tasks import Task, dask_order, of_collection  # noqa: E402
 
 __all__ = [
     "AnnotationRefused",
@@ -32,6 +32,7 @@ __all__ = [
     "TasksInACycle",
     "UnbookedData",
     "WorkerLost",
+    "dask_order",
     "least_bound",
     "of_collection",
     "run",

@@ -2,6 +2,7 @@
 
 from __future__ import annotations
 
+import reprlib
 from contextlib import contextmanager
 from typing import Any, Dict, Hashable, Iterator, List, Mapping, Optional, Sequence
 
@@ -63,7 +64,7 @@ class AnnotationRefused(ValueError):
     def __init__(self, annotation: str, value: Any, layer: Optional[str] = None) -> None:
         place = "around the run" if layer is None else f"of the layer {layer}"
         instead = self._INSTEAD.get(annotation, "a run has nothing of the kind: take it away")
-        super().__init__(f"the annotation {annotation}={value!r} {place} would be without effect: {instead}")
+        super().__init__(f"the annotation {annotation}={reprlib.repr(value)} {place} would be without effect: {instead}")
         self.annotation = annotation
         self.layer = layer
 

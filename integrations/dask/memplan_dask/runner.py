@@ -43,9 +43,10 @@ def run(
     """Runs the tasks with at most ``bound`` bytes of results and extras on all workers together; the futures of the results that stay.
 
     The tasks run along ``order`` (tasks, from 0). Without one they run along an order of least peak where each result has one consumer,
-    and else along Dask's. ``retries`` says how often a task that raises is tried again, and ``workers``, by their addresses, on which
-    workers the tasks run; without it on all that there are now. After ``patience`` seconds, and at least three, in which nothing moves,
-    and no task of the run is at work, `Standstill` is raised: so it is where what is left can run only on workers that Dask has paused.
+    and else along a plan that begins with Dask's order, and is never worse (`dask_order` is Dask's own). ``retries`` says how often a task
+    that raises is tried again, and ``workers``, by their addresses, on which workers the tasks run; without it on all that there are now.
+    After ``patience`` seconds, and at least three, in which nothing moves, and no task of the run is at work, `Standstill` is raised: so
+    it is where what is left can run only on workers that Dask has paused.
 
     Raises `memplan.admission.BoundTooLow` where the bound is below the peak of the order, `memplan.Refused` where the order is none or a
     limit of the library is passed, `UnbookedData` where a task has a future or a Dask collection inside, and one of `errors` where the

@@ -9,7 +9,7 @@ import dask
 import dask.order
 from dask.base import unpack_collections
 from dask.core import flatten, get_dependencies
-from dask.highlevelgraph import HighLevelGraph
+from dask.highlevelgraph import HighLevelGraph, Layer
 from dask.optimization import SubgraphCallable
 from distributed import Future
 from memplan.admission import Graph
@@ -57,11 +57,20 @@ def graph_of(tasks: Sequence[Task], others: int) -> Graph:
 
 
 def order_of(graph: Graph) -> List[int]:
-    """An order of least peak where each result has one consumer; else Dask's own."""
-    if graph.is_forest:
-        return graph.planned()
+    """An order of least peak where each result has one consumer; else a plan that begins with Dask's own order, and is never worse."""
+    return graph.planned() if graph.is_forest else graph.planned_from(order_of_dask(graph))
+
+
+def order_of_dask(graph: Graph) -> List[int]:
+    """The order that Dask gives to such tasks."""
     ranks = dask.order.order(dict.fromkeys(range(len(graph.inputs))), {task: set(inputs) for task, inputs in enumerate(graph.inputs)})
     return sorted(ranks, key=ranks.__getitem__)
+
+
+def dask_order(tasks: Sequence[Task]) -> List[int]:
+    """The order in which Dask itself would take the tasks, for a run that is to keep to it."""
+    refuse_cycles(tasks)
+    return order_of_dask(graph_of(tasks, 0))
 
 
 def refuse_cycles(tasks: Sequence[Task]) -> None:
@@ -96,7 +105,7 @@ def of_collection(
     optimized first, together, so that small tasks are fused. ``sizes`` tells for each key of the graph that comes of it the size and the
     extra of its task.
 
-    Raises `AnnotationRefused` where a layer has annotations, and `UnbookedData` where the graph has futures, as those of a collection do
+    Raises `AnnotationRefused` where a layer has annotations of the caller's, and `UnbookedData` where the graph has futures, as those of a collection do
     that is persisted.
     """
     given, repack = unpack_collections(collection)
@@ -133,4 +142,13 @@ def _of_results(collection: Any, futures: Dict[Hashable, Future]) -> Any:
 
 def _refuse_annotated_layers(graph: Any) -> None:
     for name, layer in graph.layers.items() if isinstance(graph, HighLevelGraph) else ():
-        refuse_annotations(layer.annotations, name)
+        refuse_annotations(_annotations_of_the_caller(layer), name)
+
+
+def _annotations_of_the_caller(layer: Layer) -> Dict[str, Any]:
+    """Without those that Dask puts there: a shuffle of a DataFrame has priorities of its keys, which it marks as its own."""
+    return {annotation: value for annotation, value in (layer.annotations or {}).items() if not _is_of_dask(value)}
+
+
+def _is_of_dask(value: Any) -> bool:
+    return isinstance(value, dict) and "__expanded_annotations__" in value
