@@ -1,14 +1,17 @@
 #!/usr/bin/env python3
 """Which bounds the program finds of task graphs, what they cost, and how near the best orders known come to them: a table in Markdown.
 
-usage: bounds.py PROGRAM [--tasks N] [--effort E] [--families A,B,..]
+usage: bounds.py PROGRAM [--plans] [--tasks N] [--seed S] [--effort E] [--families A,B,..]
 
-The graphs are those of families.py, all of them if nothing else is said, of about N tasks (1,000) and with the seed 1. Of each
+The graphs are those of families.py, all of them if nothing else is said, of about N tasks (1,000) and with the seed S (1). Of each
 `PROGRAM bound` is run with the effort E, or with its own, and then `PROGRAM check` on a plan with what it found: along the order of the
 numbers, or breadth first where that is no traversal. Seconds are of processor time of a whole run, which is made once. For N = 1000 and
 N = 10000 a prototype's bound stands beside the program's, and the best order known is its best one; else, and where it is better, that
 of the plan. Amounts are the lines of the base and of all blockers; bytes are those of the evidence, between the line of the bound and
 `end`.
+
+With --plans it is `PROGRAM plan` that is run, and `PROGRAM check` on what it prints: the table has the peak of the plan and its bound, which may be
+another than that of `bound`, since claims show the least peak where the graph has a term; bytes are those of the whole plan.
 
 What is wrong is told on standard error, and the status is then 1: a run that fails, another verdict than the numbers ask for, a bound
 above the best order known.
@@ -30,6 +33,9 @@ HEAD = (
     ["family", "tasks", "bound", "prototype's bound", "best order known", "best/bound"]
     + ["search, s", "check, s", "blockers", "amounts", "bytes"]
 )
+
+
+PLAN_HEAD = ["family", "tasks", "peak", "bound", "peak/bound", "prototype's peak", "plan, s", "check, s", "evidence", "bytes"]
 
 
 class Known(NamedTuple):
@@ -140,9 +146,10 @@ def evidence_of(report: str) -> Evidence:
 class Trial:
     """A graph of a family in a folder, and what the program says of it."""
 
-    def __init__(self, program: Path, folder: Path, family: str, count: int) -> None:
-        self.program, self.family, self.count = program, family, count
-        self.graph = families.graph_of(family, count)
+    def __init__(self, program: Path, folder: Path, family: str, count: int, seed: int) -> None:
+        self.program, self.family = program, family
+        self.known = KNOWN.get(count, {}).get(family) if seed == 1 else None
+        self.graph = families.graph_of(family, count, seed)
         self.graph_file, self.order_file, self.plan_file = (folder / name for name in ("graph", "order", "plan"))
         self.graph_file.write_text(self.graph.text(), encoding="ascii")
         self.order = list(range(1, self.graph.count + 1))
@@ -177,13 +184,31 @@ class Trial:
             raise Wrong(f"check: {checked.text[:80]!r} in place of {wanted!r}")
         return checked.seconds
 
+    def plan_cells(self, effort: Optional[int]) -> list[str]:
+        """The row of the table of plans."""
+        planned = self.answer("plan", *([] if effort is None else ["--effort", str(effort)]))
+        self.plan_file.write_text(planned.text, encoding="ascii")
+        tail = planned.text.split("\n")[2 + self.graph.count :]
+        peak, bound, evidence = int(tail[0].removeprefix("peak ")), int(tail[1].removeprefix("bound ")), tail[2].split()[0]
+        checked = self.answer("check", "--plan", str(self.plan_file))
+        wanted = f"yes {peak} least\n" if bound == peak else f"yes {peak} above {bound}\n"
+        if checked.text != wanted:
+            raise Wrong(f"check: {checked.text[:80]!r} in place of {wanted!r}")
+        known = self.known
+        if known and bound > known.peak:
+            raise Wrong(f"the bound {bound} is accepted, and an order has the peak {known.peak}")
+        return (
+            [self.family, number(self.graph.count), number(peak), number(bound), f"{peak / bound:.4f}" if bound else ""]
+            + [number(known.peak) if known else "", f"{planned.seconds:.2f}", f"{checked.seconds:.2f}", evidence, number(len(planned.text))]
+        )
+
     def cells(self, effort: Optional[int]) -> list[str]:
-        """The row of the table."""
+        """The row of the table of bounds."""
         searched = self.answer("bound", *([] if effort is None else ["--effort", str(effort)]))
         evidence = evidence_of(searched.text)
         peak = self.peak()
         seconds = self.check(peak, evidence, searched.text)
-        known = KNOWN.get(self.count, {}).get(self.family)
+        known = self.known
         best = min(peak, known.peak) if known else peak
         if evidence.bound > best:
             raise Wrong(f"the bound {evidence.bound} is accepted, and an order has the peak {best}")
@@ -211,7 +236,9 @@ def families_of(words: str) -> list[str]:
 def arguments() -> argparse.Namespace:
     parser = argparse.ArgumentParser(description=__doc__, formatter_class=argparse.RawDescriptionHelpFormatter, usage=argparse.SUPPRESS)
     parser.add_argument("program", type=Path, help=argparse.SUPPRESS)
+    parser.add_argument("--plans", action="store_true", help=argparse.SUPPRESS)
     parser.add_argument("--tasks", type=int, default=1_000, help=argparse.SUPPRESS)
+    parser.add_argument("--seed", type=int, default=1, help=argparse.SUPPRESS)
     parser.add_argument("--effort", type=int, help=argparse.SUPPRESS)
     parser.add_argument("--families", type=families_of, default=list(families.FAMILIES), help=argparse.SUPPRESS)
     given = parser.parse_args()
@@ -230,12 +257,14 @@ def print_row(cells: list[str]) -> None:
 def main() -> int:
     given = arguments()
     wrongs = 0
-    print_row(HEAD)
-    print_row(["---"] + ["--:"] * (len(HEAD) - 1))
+    head = PLAN_HEAD if given.plans else HEAD
+    print_row(head)
+    print_row(["---"] + ["--:"] * (len(head) - 1))
     with tempfile.TemporaryDirectory() as folder:
         for family in given.families:
             try:
-                print_row(Trial(given.program.resolve(), Path(folder), family, given.tasks).cells(given.effort))
+                trial = Trial(given.program.resolve(), Path(folder), family, given.tasks, given.seed)
+                print_row(trial.plan_cells(given.effort) if given.plans else trial.cells(given.effort))
             except Wrong as wrong:
                 wrongs += 1
                 print(f"{family}: {wrong}", file=sys.stderr, flush=True)

@@ -10,6 +10,8 @@ usage: check_facts.py [FOLDER]      (the repository; the one that this script is
   tools/explain explains, and what tools/fuzz expects.
 - The limits: the constants, their definitions, the table of docs/FORMATS.md, and each number that is stated in the header, in the Python
   package, in tools/fuzz/formats.py, tools/explaining and tools/drawing. The page, the header and the package state no limit elsewhere.
+- How many steps a search may take where nothing else is said: the program and its specification, the header, the module for Fortran, and the
+  Python package.
 - The commands with their options, the words and the numbers that these take, and the statuses: tools/commands.py, of which help and pages are
   made; the commands that take graphs of both versions, as tools/explain names them; and the options and the numbers that tools/fuzz takes.
 
@@ -292,6 +294,17 @@ class Facts:
             yield place, found, wanted
         yield f"{place}, which states no limit elsewhere", {"numbers": len(written_in(text))}, {"numbers": known}
 
+    # ---- efforts
+
+    def efforts(self) -> Iterator[Finding]:
+        """How many steps a search may take where nothing else is said."""
+        wanted = numbers_in(self.text("crates/requests/src/request.rt"), r"^const DEFAULT_(EFFORT): u64 = ([\d_]+);")
+        specs = "crates/requests/specs/Request.antt"
+        yield specs, upper(numbers_in(self.text(specs), r"^default_(effort) = (\d+)$")), wanted
+        yield HEADER, numbers_in(self.text(HEADER), r"^#define MEMPLAN_(EFFORT) (\d+)$"), wanted
+        yield FORTRAN, upper(numbers_in(self.text(FORTRAN), r"\bmemplan_(effort) = (\d+)_")), wanted
+        yield PACKAGE, numbers_in(self.text(PACKAGE), r"^(EFFORT) = ([\d_]+)$"), wanted
+
     # ---- commands
 
     def values(self) -> Dict[str, str]:
@@ -342,7 +355,7 @@ def difference(found: dict, wanted: dict) -> str:
 def main() -> int:
     facts = Facts(Path(sys.argv[1]) if sys.argv[1:] else Path(__file__).resolve().parent.parent)
     passed = failed = 0
-    for what in ("statuses", "complaints", "faults", "refusals", "limits", "commands"):
+    for what in ("statuses", "complaints", "faults", "refusals", "limits", "efforts", "commands"):
         for place, found, wanted in getattr(facts, what)():
             fault = difference(found, wanted)
             passed, failed = passed + (not fault), failed + bool(fault)

@@ -54,6 +54,8 @@ JUDGED = Option("plan", FILE, "the plan file that is judged")
 PRIORITY = Option("priority", FILE, "a ranking of the tasks: of those that may start, the first of it is started")
 BOUND = Option("bound", "B", "the memory that there is, in the units of the input")
 WORKERS = Option("workers", "W", "how many workers, 1 to 4096", 1, 4096)
+EFFORT = Option("effort", "E", "how many steps a search may take, some 100 million a second; 1,000,000,000 without it")
+EFFORT_BY_TASKS = Option("effort", "E", "how many steps a search of a thousand tasks may take, of more tasks more, up to 15 E; 1,000,000,000 without it")
 
 FRONT_OPTIONS = (PERM, ORDERING, SHAPE, AMALGAMATE, INPLACE)
 MATRIX_INPUT = (MATRIX, *FRONT_OPTIONS)
@@ -88,12 +90,20 @@ COMMANDS: Tuple[Command, ...] = (
     Command(
         name="plan",
         purpose="an order of least peak, its peak, and a certificate",
-        usage="INPUT [--print text|json]",
-        options=(*INPUT, Option("print", "text|json", "print a plan file, or one line of JSON")),
-        one_of=("tree|workflow|matrix",),
-        only_with=OF_A_MATRIX,
-        prints="a plan file: an order of the tasks, the peak, and the claims from which it follows that no order has a lower peak",
-        statuses={},
+        usage="[--print text|json] (INPUT | --graph FILE [--order FILE] [--effort E])",
+        options=(
+            *INPUT,
+            GRAPH,
+            Option("order", FILE, "an order file: the plan of the graph has no higher peak than it"),
+            EFFORT_BY_TASKS,
+            Option("print", "text|json", "print a plan file, or one line of JSON"),
+        ),
+        one_of=("tree|workflow|matrix|graph",),
+        only_with=(*OF_A_MATRIX, ("order", "graph"), ("effort", "graph")),
+        prints="a plan file: an order of the tasks, the peak, and the claims from which it follows that no order has a lower peak. "
+        "Of a task graph a plan of version 3: no order has a peak below its bound, so it is least where that is its peak, "
+        "as it is wherever the graph is series-parallel",
+        statuses={1: f"{NO_TRAVERSAL} of the graph"},
         example=("plan --tree examples/five.tree --print json", '{"claims":[[5,"R",5,5],[10,"R",5,5],[11,"R",10,10],[13,"R",10,0]],"order":[3,1,4,2,5],"peak":11}'),
     ),
     Command(
@@ -213,7 +223,7 @@ COMMANDS: Tuple[Command, ...] = (
         options=(
             GRAPH,
             Option("order", FILE, "an order file: its peak is told too"),
-            Option("effort", "E", "how many steps the search may take, some 60 million a second; 1,000,000,000 without it"),
+            EFFORT,
         ),
         one_of=("graph",),
         only_with=(),

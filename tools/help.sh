@@ -1,7 +1,7 @@
 # Sourced by tools/terminal.sh, and by nothing else. Made by tools/make_help.py of tools/commands.py.
 commands="plan check replay post tree fronts simulate spill segments reduce bound upgrade demo"
 declare -A usage_of=(
-    [plan]='INPUT [--print text|json]'
+    [plan]='[--print text|json] (INPUT | --graph FILE [--order FILE] [--effort E])'
     [check]='(INPUT | --graph FILE) --plan FILE [--workers W]'
     [replay]='(INPUT | --graph FILE) (--order FILE | --plan FILE)'
     [post]=TREE
@@ -16,7 +16,7 @@ declare -A usage_of=(
     [demo]='(--seed S --tasks N [--kind tree|workflow] | --kind grid --rows R --cols C)'
 )
 declare -A options_of=(
-    [plan]='tree workflow matrix perm ordering shape amalgamate inplace print'
+    [plan]='tree workflow matrix perm ordering shape amalgamate inplace graph order effort print'
     [check]='tree workflow matrix perm ordering shape amalgamate inplace graph plan workers'
     [replay]='tree workflow matrix perm ordering shape amalgamate inplace graph order plan'
     [post]='tree matrix perm ordering shape amalgamate inplace'
@@ -31,7 +31,7 @@ declare -A options_of=(
     [demo]='kind seed tasks rows cols'
 )
 declare -A one_of=(
-    [plan]='tree|workflow|matrix'
+    [plan]='tree|workflow|matrix|graph'
     [check]='tree|workflow|matrix|graph plan'
     [replay]='tree|workflow|matrix|graph order|plan'
     [post]='tree|matrix'
@@ -46,7 +46,7 @@ declare -A one_of=(
     [demo]='seed|rows'
 )
 declare -A only_with=(
-    [plan]='perm:matrix ordering:matrix shape:matrix amalgamate:matrix inplace:matrix'
+    [plan]='perm:matrix ordering:matrix shape:matrix amalgamate:matrix inplace:matrix order:graph effort:graph'
     [check]='perm:matrix ordering:matrix shape:matrix amalgamate:matrix inplace:matrix'
     [replay]='perm:matrix ordering:matrix shape:matrix amalgamate:matrix inplace:matrix'
     [post]='perm:matrix ordering:matrix shape:matrix amalgamate:matrix inplace:matrix'
@@ -69,14 +69,14 @@ declare -A value_of=(
     [shape]='triangle|square'
     [amalgamate]=Z
     [inplace]='no|yes'
-    [print]='text|json'
     [graph]=FILE
+    [order]=FILE
+    [effort]=E
+    [print]='text|json'
     [plan]=FILE
     [workers]=W
-    [order]=FILE
     [bound]=B
     [priority]=FILE
-    [effort]=E
     [kind]='tree|workflow|grid'
     [seed]=S
     [tasks]=N
@@ -85,9 +85,9 @@ declare -A value_of=(
 )
 declare -A range_of=(
     [amalgamate]='0 1099511627776'
+    [effort]='0 18446744073709551615'
     [workers]='1 4096'
     [bound]='0 18446744073709551615'
-    [effort]='0 18446744073709551615'
     [seed]='0 18446744073709551615'
     [tasks]='1 1000000'
     [rows]='1 50000'
@@ -100,11 +100,8 @@ print_help() { # COMMAND, or nothing
             cat <<'END'
 memplan plan: an order of least peak, its peak, and a certificate
 
-usage: memplan plan INPUT [--print text|json]
-INPUT is TREE, or --workflow FILE
-TREE is --tree FILE, or MATRIX
-MATRIX is --matrix FILE, with at most one of --perm and --ordering, and any of
-the others
+usage: memplan plan [--print text|json] (INPUT | --graph FILE [--order FILE]
+[--effort E])
 
   --tree FILE                a tree file: tasks of which each leaves one block
                              to its parent, as fronts do
@@ -122,10 +119,20 @@ the others
                              to 2^40; none without it
   --inplace no|yes           with yes a front is assembled in the place of its
                              greatest child's block
+  --graph FILE               a task graph file: tasks, and the data that go
+                             from one to another
+  --order FILE               an order file: the plan of the graph has no higher
+                             peak than it
+  --effort E                 how many steps a search of a thousand tasks may
+                             take, of more tasks more, up to 15 E;
+                             1,000,000,000 without it
   --print text|json          print a plan file, or one line of JSON
 
 Prints a plan file: an order of the tasks, the peak, and the claims from which
-it follows that no order has a lower peak.
+it follows that no order has a lower peak. Of a task graph a plan of version 3:
+no order has a peak below its bound, so it is least where that is its peak, as
+it is wherever the graph is series-parallel. Status 1: the order is no
+traversal of the graph.
 
 $ memplan plan --tree examples/five.tree --print json
 {"claims":[[5,"R",5,5],[10,"R",5,5],[11,"R",10,10],[13,"R",10,0]],"order":[3,1,4,2,5],"peak":11}
@@ -475,7 +482,7 @@ usage: memplan bound --graph FILE [--order FILE] [--effort E]
   --graph FILE  a task graph file: tasks, and the data that go from one to
                 another
   --order FILE  an order file: its peak is told too
-  --effort E    how many steps the search may take, some 60 million a second;
+  --effort E    how many steps a search may take, some 100 million a second;
                 1,000,000,000 without it
 
 Prints bound L with the evidence for it, as in a plan file of version 3, end;

@@ -12,15 +12,15 @@ _memplan() {
         --inplace) words="no yes" ;;
         --print) words="text json" ;;
         --kind) words="tree workflow grid" ;;
-        --tree | --workflow | --matrix | --perm | --graph | --plan | --order | --priority)
+        --tree | --workflow | --matrix | --perm | --graph | --order | --plan | --priority)
             compopt -o filenames 2>/dev/null
             mapfile -t COMPREPLY < <(compgen -f -- "$word")
             return
             ;;
-        --amalgamate | --workers | --bound | --effort | --seed | --tasks | --rows | --cols) return ;;
+        --amalgamate | --effort | --workers | --bound | --seed | --tasks | --rows | --cols) return ;;
         *)
             case ${COMP_WORDS[1]} in
-                plan) words="--tree --workflow --matrix --perm --ordering --shape --amalgamate --inplace --print" ;;
+                plan) words="--tree --workflow --matrix --perm --ordering --shape --amalgamate --inplace --graph --order --effort --print" ;;
                 check) words="--tree --workflow --matrix --perm --ordering --shape --amalgamate --inplace --graph --plan --workers" ;;
                 replay) words="--tree --workflow --matrix --perm --ordering --shape --amalgamate --inplace --graph --order --plan" ;;
                 post) words="--tree --matrix --perm --ordering --shape --amalgamate --inplace" ;;

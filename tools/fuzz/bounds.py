@@ -1,5 +1,6 @@
 #!/usr/bin/env python3
-"""Asks `bound` for a bound of random small task graphs, and `check` for its verdict on plans with bounds, and compares both with brute force.
+"""Asks `bound` for a bound of random small task graphs, `plan` for a plan, and `check` for its verdict on plans with bounds, and compares all with
+brute force.
 
 usage: bounds.py PROGRAM [--graphs N] [--first N] [--seed S] [--jobs J] [--keep FOLDER]      (PROGRAM is crates/memplan/out/memplan)
 
@@ -7,12 +8,14 @@ A graph has at most seven tasks and some items, each with any number of readers;
 
 - `bound` prints a number that is at most the least peak of all orders, and at least what is there at the start and what each task reads and needs;
   the plain judge of evidence.py has nothing against the evidence; beside an order it prints its peak, or its first fault;
+- `plan` prints an order with its peak, no worse than the one that it is given, a bound that is at most the least peak, and evidence that the plain
+  judge, or of claims `check`, has nothing against; as JSON it says the same; where the bound is the peak, that is the least one;
 - `check` says `least` of an order whose peak is that number, and `above` of any other, with that evidence;
 - of plans whose numbers, evidence or order are changed it says what the plain judge says; and a plan that it accepts has a bound that is at most the
   least peak;
 - a file that is changed in a few bytes, tokens or lines is refused as the plain reader refuses it, or judged as what it says.
 
-It prints how many graphs and orders were tried, and for how many the bound is the least peak. A graph that is wrong is kept in FOLDER, and the status
+It prints how many graphs and orders were tried, and for how many the bound and the peak of the plan are the least peak. A graph that is wrong is kept in FOLDER, and the status
 is then 1.
 """
 import argparse
@@ -35,9 +38,11 @@ from shared import no_traversal
 
 
 class Result(NamedTuple):
-    """A graph that was tried: whether the bound is the least peak, how many orders there are, the runs that it took, and what was wrong."""
+    """A graph that was tried: whether the bound is the least peak, and whether that of the plan is; how many orders there are, the runs that it
+    took, and what was wrong."""
 
     is_met: bool
+    is_least: bool
     orders: int
     runs: int
     wrongs: list[str]
@@ -54,6 +59,7 @@ class Trial:
         self.orders = {order: self.system.peak(order) for order in self.system.traversals()}
         self.least = min(self.orders.values())
         self.bound: Optional[int] = None
+        self.planned: Optional[int] = None
 
     def wrongs(self) -> Iterator[str]:
         self.bench.write("g", self.text)
@@ -76,6 +82,41 @@ class Trial:
             for tried in self.plans(plan):
                 yield from self.wrongs_of_check(text_of(tried))
             yield from self.wrongs_of_check(changed(self.draw, text_of(plan)))
+        self.bench.write("o", listed(self.draw, order))
+        self.planned, wrongs = self.planned_by([], None)
+        yield from wrongs
+        effort = self.draw.choice([[], ["--effort", str(self.draw.choice([0, 1, 100, 10**4, 10**6]))]])
+        _, wrongs = self.planned_by(["--order", "o", *effort], self.system.peak(order))
+        yield from wrongs
+        self.bench.write("o", listed(self.draw, other))
+        refused = self.bench.run(["plan", "--graph", "g", "--order", "o"])
+        if refused != Ending(NO, self.system.fault(other).encode(), b""):
+            yield f"plan from {other}: {refused}"
+
+    def planned_by(self, more: list[str], most: Optional[int]) -> tuple[Optional[int], list[str]]:
+        """The peak of a plan, which may be given one that is not to be passed; and what is wrong with it."""
+        words = ["plan", "--graph", "g", *more]
+        found = self.bench.run(words)
+        _, refusal = formats.refusal_of(lambda: formats.read_bounded_plan(found.report))
+        if found.status != DONE or refusal:
+            return None, [f"plan: {found}"]
+        plan = bounded_plan_of(found.report)
+        return plan.peak, list(self.wrongs_of_plan(words, found.report, plan, most))
+
+    def wrongs_of_plan(self, words: list[str], text: bytes, plan: BoundedPlan, most: Optional[int]) -> Iterator[str]:
+        if self.orders.get(tuple(plan.order)) != plan.peak or plan.bound > min(plan.peak, self.least) or (most is not None and plan.peak > most):
+            yield f"plan {plan}, where the least peak is {self.least} and that of the order {most}"
+        verdict = f"yes {plan.peak} least\n" if plan.bound == plan.peak else f"yes {plan.peak} above {plan.bound}\n"
+        if plan.word != "claims" and self.judge.verdict(plan) != verdict:
+            yield f"the plain judge says of {plan}: {self.judge.verdict(plan)}"
+        self.bench.write("p", text)
+        checked = self.bench.run(["check", "--graph", "g", "--plan", "p"])
+        if checked != Ending(DONE, verdict.encode(), b""):
+            yield f"check of {plan}: {checked}"
+        told = self.bench.run([*words, "--print", "json"])
+        made = json.loads(told.report) if told.status == DONE else {}
+        if [made.get("order"), made.get("peak"), made.get("bound"), list(made.get("evidence", {}))] != [list(plan.order), plan.peak, plan.bound, [plan.word]]:
+            yield f"plan as JSON: {told} in place of {plan}"
 
     def wrongs_of_bound(self, found: Ending, head: bytes) -> Iterator[str]:
         lines = rows(found.report)[1 if head else 0 :]
@@ -171,7 +212,7 @@ class Worker:
             folder.mkdir(parents=True, exist_ok=True)
             (folder / "graph").write_bytes(trial.text)
             (folder / "case.json").write_text(json.dumps({"wrong": wrongs}, indent=1) + "\n")
-        return Result(trial.bound == trial.least, len(trial.orders), self.bench.runs - before, wrongs)
+        return Result(trial.bound == trial.least, trial.planned == trial.least, len(trial.orders), self.bench.runs - before, wrongs)
 
     def judged(self, trial: Trial) -> list[str]:
         wrongs = []
@@ -208,7 +249,8 @@ def main() -> int:
     met = sum(1 for result in results if result.is_met)
     wrong = sum(1 for result in results if result.wrongs)
     orders, runs = (sum(counts) for counts in zip(*((result.orders, result.runs) for result in results)))
-    print(f"{len(results)} graphs, of {met} the bound is the least peak; {orders} orders, {runs} runs; {wrong} wrong")
+    least = sum(1 for result in results if result.is_least)
+    print(f"{len(results)} graphs; the least peak is the bound of {met} and the peak of the plan of {least}; {orders} orders, {runs} runs; {wrong} wrong")
     return 1 if wrong else 0
 
 

@@ -192,8 +192,10 @@ def bound_options(draw: random.Random, _bench: Bench, setting: Setting) -> Optio
     return options
 
 
-def plan_options(draw: random.Random, _bench: Bench, _setting: Setting) -> Options:
-    return [("--print", draw.choice(["text", "json"]))] if draw.random() < 0.3 else []
+def plan_options(draw: random.Random, bench: Bench, setting: Setting) -> Options:
+    options = [("--print", draw.choice(["text", "json"]))] if draw.random() < 0.3 else []
+    is_graph = any(name == "--graph" for name, _ in setting.options)
+    return [*options, *bound_options(draw, bench, setting)] if is_graph else options
 
 
 def no_options(_draw: random.Random, _bench: Bench, _setting: Setting) -> Options:
@@ -232,7 +234,7 @@ INPUTS_AND_GRAPHS = (*ALL_INPUTS, "shared graph", "shared graph")
 # A further command is a further line, here and in formats.COMMANDS.
 COMMANDS = {
     "replay": Command(INPUTS_AND_GRAPHS, replay_options),
-    "plan": Command(ALL_INPUTS, plan_options),
+    "plan": Command(INPUTS_AND_GRAPHS, plan_options),
     "check": Command((*ALL_INPUTS, "shared graph", "shared graph"), check_options),
     "simulate": Command(INPUTS_AND_GRAPHS, simulate_options),
     "spill": Command(INPUTS_AND_GRAPHS, spill_options),

@@ -556,7 +556,7 @@ WITHOUT_FRONT_OPTIONS = {"fronts"}
 # The inputs of each command, the options that it must have, one of each group, and those that it may have.
 COMMANDS: dict[str, tuple[set[str], list[set[str]], set[str]]] = {
     "replay": ({"tree", "workflow", "matrix", "graph"}, [{"order", "plan"}], set()),
-    "plan": ({"tree", "workflow", "matrix"}, [], {"print"}),
+    "plan": ({"tree", "workflow", "matrix", "graph"}, [], {"print", "order", "effort"}),
     "check": ({"tree", "workflow", "matrix", "graph"}, [{"plan"}], {"workers"}),
     "simulate": ({"tree", "workflow", "matrix", "graph"}, [{"order", "plan"}, {"bound"}, {"workers"}], {"priority"}),
     "spill": ({"tree", "workflow", "matrix", "graph"}, [{"order", "plan"}, {"bound"}], set()),
@@ -605,6 +605,8 @@ def request_of(words: list[str]) -> Optional[dict[str, str]]:
     if words[0] == "demo" and not is_demo(options):
         return None
     if words[0] == "upgrade" and "priority" in names and "plan" not in names:
+        return None
+    if words[0] == "plan" and names & {"order", "effort"} and "graph" not in names:
         return None
     return options if all(is_value(name, value) for name, value in options.items()) else None
 

@@ -130,6 +130,8 @@ class Judge:
             test = "task|rising|amounts|sizes|open|level"
             claim = f"{claim}|no need (task|low)|no set (empty|base)|no blocker {count} ({test})|no term"
         lines = {"replay": order, "simulate": order, "spill": order, "bound": order, "check": f"{order}|{claim}"}
+        if "graph" in self.options:
+            lines["plan"] = order
         return self.words[0] in lines and bool(re.fullmatch(f"({lines[self.words[0]]})\n", self.text))
 
     # ---- refusals
@@ -257,7 +259,39 @@ class Judge:
             if tasks != [graph.tasks[number - 1] for number in name] or sorted(arcs) != sorted(graph.arcs):
                 yield "the workflow has another system than the graph"
 
+    def graph_plan_ends(self) -> Iterator[str]:
+        system, most = shared_system_of_graph(self.file("graph")), None
+        if "order" in self.options:
+            order = numbers(self.file("order"))
+            if fault := system.fault(order):
+                yield from self.expect(fault)
+                return
+            most = system.peak(order)
+        text = self.ending.report
+        if self.options.get("print") == "json":
+            more = [f"--{name}={self.options[name]}" for name in ("graph", "order", "effort") if name in self.options]
+            text = self.bench.run(["plan", *more]).report
+        if formats.refusal_of(partial(formats.read_bounded_plan, text))[1]:
+            yield "this is no plan of version 3"
+            return
+        plan = bounded_plan_of(text)
+        if self.options.get("print") == "json":
+            told = json.loads(self.text)
+            if [told["order"], told["peak"], told["bound"], list(told["evidence"])] != [list(plan.order), plan.peak, plan.bound, [plan.word]]:
+                yield "the JSON has another plan"
+        if system.fault(plan.order) or system.peak(plan.order) != plan.peak or plan.bound > plan.peak or (most is not None and plan.peak > most):
+            yield f"a plan with the peak {plan.peak} and the bound {plan.bound}, from an order with the peak {most}"
+        elif system.count <= FEW and plan.bound > min(map(system.peak, system.traversals())):
+            yield f"a bound of {plan.bound}"
+        self.bench.write("made", text)
+        verdict = f"yes {plan.peak} least\n" if plan.bound == plan.peak else f"yes {plan.peak} above {plan.bound}\n"
+        if self.bench.run(["check", f"--graph={self.options['graph']}", "--plan=made"]) != Ending(DONE, verdict.encode(), b""):
+            yield "check does not say yes to the plan"
+
     def plan_ends(self) -> Iterator[str]:
+        if "graph" in self.options:
+            yield from self.graph_plan_ends()
+            return
         words, text = input_words(self.options), self.ending.report
         if self.options.get("print") == "json":
             text = self.bench.run(["plan", *words]).report

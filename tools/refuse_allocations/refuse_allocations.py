@@ -48,6 +48,9 @@ reduce --graph four.graph
 reduce --graph bridge.graph
 reduce --graph fork.graph
 reduce --graph shared.graph
+plan --graph shared.graph
+plan --graph shared.graph --order shared.order --print json
+plan --graph fork.graph --effort 1000
 bound --graph shared.graph
 bound --graph shared.graph --order shared.order
 check --graph shared.graph --plan shared.plan

@@ -115,14 +115,20 @@ COMMANDS = [
     (FUZZ, r'"matrix", "graph"\}, \[\{"order", "plan"\}, \{"bound"\}\]', '"matrix"}, [{"order", "plan"}, {"bound"}]', "spill is amalgamate bound inplace"),
     (FUZZ, r'"seed": \(0, ', '"seed": (1, ', "seed is 1 to 18446744073709551615 and not 0 to 18446744073709551615"),
 ]
-CHANGES = [*STATUSES, *FAULTS, *REFUSALS, *OF_LIMITS, *COMMANDS]
+EFFORTS = [
+    ("crates/requests/specs/Request.antt", r"default_effort = 1000000000", "default_effort = 1", "Request.antt: EFFORT is 1 and not 1000000000"),
+    (HEADER, r"MEMPLAN_EFFORT 1000000000", "MEMPLAN_EFFORT 100000000", "EFFORT is 100000000 and not 1000000000"),
+    ("fortran/memplan.f90", r"memplan_effort = 1000000000_", "memplan_effort = 100000000_", "EFFORT is 100000000 and not 1000000000"),
+    ("python/memplan/__init__.py", r"EFFORT = 1_000_000_000", "EFFORT = 10_000_000", "EFFORT is 10000000 and not 1000000000"),
+]
+CHANGES = [*STATUSES, *FAULTS, *REFUSALS, *OF_LIMITS, *EFFORTS, *COMMANDS]
 # Says what is compared, and where.
 COMPARED = """
 import sys
 from pathlib import Path
 from check_facts import Facts
 facts = Facts(Path(sys.argv[1]))
-for what in ("statuses", "complaints", "faults", "refusals", "limits", "commands"):
+for what in ("statuses", "complaints", "faults", "refusals", "limits", "efforts", "commands"):
     for place, _, _ in getattr(facts, what)():
         print(f"{what} in {place}")
 """

@@ -9,6 +9,8 @@ A file of rows says in its first line what they show. It has tables of these kin
   It is then refused as a `kind` of file: at a line for the reason that `starts` has for it, or for all, and at the end for the `last` one.
   Without its last line feed it is read as it is.
 - `[[plan]]`: an `input`, as words, and the `peak` of its plan, which is accepted with it and replayed to it. `made` are files that runs print.
+- `[[graph_plan]]`: `words` after `plan`, with the graph as file `g`; the `peak` of the plan and its `bound`, and the word of its `evidence`.
+  `check` of it says that the peak is least, or above the bound, and the JSON of it says the same.
 - `[texts]` and `[runs]`: texts and lists of runs by their names. A string that begins with `@` names one; those of shared.toml are known
   to all files.
 
@@ -18,6 +20,7 @@ number of `from`, which is greater by its `step`, or by 1, from line to line.
 The program is that of the environment's MEMPLAN_PROGRAM, or else of prebuilt/.
 """
 
+import json
 import subprocess
 import sys
 import tempfile
@@ -68,6 +71,16 @@ class Plan(NamedTuple):
     files: dict[str, File]
     made: dict[str, str]
     peak: int
+
+
+class GraphPlan(NamedTuple):
+    """Words that ask for the plan of a graph, and what it has."""
+
+    words: str
+    files: dict[str, File]
+    peak: int
+    bound: int
+    evidence: str
 
 
 class Ran(NamedTuple):
@@ -162,10 +175,15 @@ def plan_of(told: dict[str, Any], names: Names) -> Plan:
     return Plan(told["input"], names.files_of(told.get("files", {})), told.get("made", {}), told["peak"])
 
 
-def read(text: str, shared: str) -> Iterator[tuple[str, Row | Plan]]:
+def graph_plan_of(told: dict[str, Any], names: Names) -> GraphPlan:
+    check_keys(told, "words files peak bound evidence")
+    return GraphPlan(told["words"], names.files_of(told["files"]), told["peak"], told["bound"], told["evidence"])
+
+
+def read(text: str, shared: str) -> Iterator[tuple[str, Row | Plan | GraphPlan]]:
     """What a file of rows has, each with a name: its kind and its number, and for those of a cut a further number."""
     tables = tomllib.loads(text)
-    check_keys(tables, "", "row cut plan texts runs")
+    check_keys(tables, "", "row cut plan graph_plan texts runs")
     names = Names({}, {}).and_those_of(tomllib.loads(shared)).and_those_of(tables)
     for number, told in enumerate(tables.get("row", []), 1):
         yield f"row {number}", row_of(told, names)
@@ -174,9 +192,11 @@ def read(text: str, shared: str) -> Iterator[tuple[str, Row | Plan]]:
             yield f"cut {number}.{part}", row
     for number, told in enumerate(tables.get("plan", []), 1):
         yield f"plan {number}", plan_of(told, names)
+    for number, told in enumerate(tables.get("graph_plan", []), 1):
+        yield f"graph_plan {number}", graph_plan_of(told, names)
 
 
-def all_rows() -> Iterator[tuple[str, Row | Plan]]:
+def all_rows() -> Iterator[tuple[str, Row | Plan | GraphPlan]]:
     """What all files have."""
     shared = SHARED.read_text(encoding="utf-8")
     for file in sorted(set(FOLDER.glob("*.toml")) - {SHARED}):
@@ -211,7 +231,7 @@ class Place:
 class RowTest(unittest.TestCase):
     """A row is as the program has it."""
 
-    def __init__(self, name: str = "", row: Optional[Row | Plan] = None) -> None:
+    def __init__(self, name: str = "", row: Optional[Row | Plan | GraphPlan] = None) -> None:
         super().__init__("check")
         self.name, self.row = name, row
 
@@ -223,6 +243,8 @@ class RowTest(unittest.TestCase):
             place = Place(folder, self.row.files)
             if isinstance(self.row, Plan):
                 self.check_plan(self.row, place)
+            elif isinstance(self.row, GraphPlan):
+                self.check_graph_plan(self.row, place)
             else:
                 self.check_runs(self.row, place)
 
@@ -249,12 +271,31 @@ class RowTest(unittest.TestCase):
         self.assertEqual(self.printed(place, f"replay {plan.input} --plan made"), f"peak {plan.peak}\n".encode())
 
 
+    def check_graph_plan(self, plan: GraphPlan, place: Place) -> None:
+        text = self.printed(place, f"plan {plan.words}")
+        place.put("made", text)
+        lines = text.decode().split("\n")
+        order = lines[2 : 2 + int(lines[1].removeprefix("order "))]
+        peak, bound, evidence = lines[2 + len(order) : 5 + len(order)]
+        self.assertEqual((lines[0], peak, bound), ("plan 3", f"peak {plan.peak}", f"bound {plan.bound}"), f"memplan plan {plan.words}")
+        self.assertEqual(evidence.split()[0], plan.evidence, f"memplan plan {plan.words}")
+        verdict = f"yes {plan.peak} least\n" if plan.peak == plan.bound else f"yes {plan.peak} above {plan.bound}\n"
+        self.assertEqual(self.printed(place, "check --graph g --plan made"), verdict.encode())
+        place.put("order", "".join(f"{task}\n" for task in order).encode())
+        self.assertEqual(self.printed(place, "replay --graph g --order order"), f"peak {plan.peak}\n".encode())
+        told = json.loads(self.printed(place, f"plan {plan.words} --print json"))
+        self.assertEqual([told["order"], told["peak"], told["bound"]], [[int(task) for task in order], plan.peak, plan.bound])
+        self.assertEqual(list(told["evidence"]), [plan.evidence])
+
+
 # ---- whether a wrong row is found
 
 ONE = {"t": "tree 1\nnodes 1\n0 7 2 1\nend\n", "o": "1\n"}
 RIGHT = Row(["replay --tree t --order o", "replay --order=o --tree=t"], ONE, 0, "peak 9\n")
 UNASKED = Row(["replay"], {}, 2, "", "memplan: usage\n")
 PLANNED = Plan("--tree t", ONE, {}, 9)
+GRAPH = {"g": "graph 1\ntasks 1\n7 0 1\narcs 1\n1 0 2\nend\n"}
+GRAPH_PLANNED = GraphPlan("--graph g", GRAPH, 9, 9, "claims")
 TWICE = Row(["demo --seed 1 --tasks 9"] * 2, {}, 0, "\ncheck yes\nend\n", is_end=True)
 
 ROWS = """
@@ -270,12 +311,12 @@ prints = "peak 9\\n"
 
 
 class WrongRows(unittest.TestCase):
-    def check_refused(self, row: Row | Plan) -> None:
+    def check_refused(self, row: Row | Plan | GraphPlan) -> None:
         with self.assertRaises(AssertionError):
             RowTest("", row).debug()
 
     def test_right_ones_pass(self) -> None:
-        for row in (RIGHT, UNASKED, PLANNED, TWICE):
+        for row in (RIGHT, UNASKED, PLANNED, GRAPH_PLANNED, TWICE):
             RowTest("", row).debug()
 
     def test_another_status(self) -> None:
@@ -306,6 +347,9 @@ class WrongRows(unittest.TestCase):
         self.check_refused(PLANNED._replace(peak=8))
         self.check_refused(PLANNED._replace(files={"t": "tree 1\n"}))
         self.check_refused(PLANNED._replace(made={"t": "replay"}))
+        self.check_refused(GRAPH_PLANNED._replace(peak=8))
+        self.check_refused(GRAPH_PLANNED._replace(bound=8))
+        self.check_refused(GRAPH_PLANNED._replace(evidence="need"))
 
 
 class FilesOfRows(unittest.TestCase):
