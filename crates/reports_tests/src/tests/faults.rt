@@ -1,8 +1,8 @@
 //! Loads and writes that fail, and sinks that are full.
 
 use super::commands::{
-    ABREAST, BOTH, BOUND, CHECK_GRAPH, FILES, FRONTS, OF_FIVE, PLAN_GRAPH, PLAN_OF_ZIGZAG, PLANNING,
-    REDUCE, REPLAY, SEGMENTS, SIMULATE, SPILL, TIGHT, WORKFLOW,
+    ABREAST, BOTH, BOUND, CHECK_GRAPH, FILES, FRONTS, OF_FIVE, PLAN_GRAPH, PLAN_OF_ZIGZAG,
+    PLANNING, REDUCE, REPLAY, SEGMENTS, SIMULATE, SPILL, TIGHT, WORKFLOW,
 };
 use super::{check_run, files_of, run_into};
 use mp_outside::MemSink;
