@@ -107,6 +107,12 @@ IsOfSet sorts.First = Unit {0}
 IsOfSet sorts.Last = Unit {0}
 IsOfSet _ = ⊥
 
+-- the number behind the word is in its range
+abbrev HasNumber : Sort → Stated → Type 0
+HasNumber sorts.Need s = s.task ≤ most_number
+HasNumber sorts.States s = s.states ≤ most_number
+HasNumber _ s = ⊥
+
 record IsInBase (s : Stated) : Type 0 where
   sort : IsOfSet s.sort
   few : s.left ≤ most_tasks
@@ -148,7 +154,7 @@ At stages.Claims s = (s.sort ≡ sorts.Claims) × (s.count ≤ most_positions) �
 At stages.BaseSection s = IsOfSet s.sort × (s.left ≤ most_tasks) × (s.blockers ≡ [])
 At stages.Base s = IsInBase s
 At stages.Own s = IsInOwn s
-At stages.End s = (s.sort ≡ sorts.Need) × (s.task ≤ most_number)
+At stages.End s = HasNumber s.sort s
 At stages.Ended s = IsWithin (evidence_stated s.sort s)
 At _ s = s.blockers ≡ []
 
@@ -179,7 +185,7 @@ order-passed s row stage so at = go (ltb (length s.order) s.count) refl where
 
 sort-passed : (sort : Sort) (s : Stated) (row : Row) → HasHead s → s.blockers ≡ [] → first_failure (sort_tests sort row) ≡ None
     → Holds (sort_next sort s row)
-sort-passed sorts.Need s row so none passed = (so, (refl, leb-true _ _ (hold _ _ _ _ _ _ passed).1))
+sort-passed sorts.Need s row so none passed = (so, leb-true _ _ (hold _ _ _ _ _ _ passed).1)
 sort-passed sorts.First s row so none passed = (so, (tt, leb-true _ _ (hold _ _ _ _ _ _ passed).1, none))
 sort-passed sorts.Last s row so none passed = (so, (tt, leb-true _ _ (hold _ _ _ _ _ _ passed).1, none))
 sort-passed sorts.Claims s row so none passed = (
@@ -190,6 +196,7 @@ sort-passed sorts.Claims s row so none passed = (
     record { within = omega arith; each = All-nil IsClaimWithin; rising = tt },
   ),
 )
+sort-passed sorts.States s row so none passed = (so, leb-true _ _ (hold _ _ _ _ _ _ passed).1)
 
 claims-passed : (s : Stated) (row : Row) → s.stage ≡ stages.Claims → HasHead s → At stages.Claims s
     → first_failure (staged_tests stages.Claims s row) ≡ None → Holds (staged_next stages.Claims s row)
@@ -351,13 +358,18 @@ own-passed s row stage so at = go (ltb (length s.own) s.count) refl where
   go false e passed =
       after-passed s row so (subst (λ (st : Stage). IsClosed s (blockers_at st s)) (sym stage) (closed-own s at)) passed
 
--- ---- the need of a task
+-- ---- the need of a task, or how many states
 
 need-within : (task : ℕ) → task ≤ most_number → IsWithin (Sums (need_stated task))
 need-within task few = go (eqb task 0) refl where
   go : (b : Bool) → eqb task 0 ≡ b → IsWithin (Sums (cond b Start (Need task)))
   go true e = tt
   go false e = (positive task e, few)
+
+number-within : (sort : Sort) (s : Stated) → HasNumber sort s → IsWithin (evidence_stated sort (record s { stage = stages.Ended }))
+number-within sorts.Need s few = need-within s.task few
+number-within sorts.States s few = few
+number-within _ s few = absurd few
 
 -- ---- all lines
 
@@ -389,11 +401,7 @@ line-passed stages.BaseSection s row e so at passed = (
 )
 line-passed stages.Base s row e so at passed = base-passed s row e so at passed
 line-passed stages.Own s row e so at passed = own-passed s row e so at passed
-line-passed stages.End s row e so at passed = (
-  so,
-  subst (λ (sort : Sort). IsWithin (evidence_stated sort (record s { stage = stages.Ended }))) (sym at.0)
-      (need-within s.task at.1),
-)
+line-passed stages.End s row e so at passed = (so, number-within s.sort s at)
 line-passed stages.Ended s row e so at passed = absurd cc
 
 rows-passed : (all before rest : List Row) → all ≡ before ++ rest → ArePassed bounded_plan_format all → Holds (stated before)

@@ -1,5 +1,5 @@
 -- What a plan with a bound sends to a writer of JSON, and that its text is the plan's JSON, which is one token.
-use Rattle.std.proofs.Common.{◌≡◌, ℕ, suc, ◌^◌, ◌<◌, true, false, inl, List, [], ◌∷◌, ◌++◌, length}
+use Rattle.std.proofs.Common.{◌≡◌, ℕ, suc, ◌^◌, ◌<◌, ◌≤◌, true, false, inl, List, [], ◌∷◌, ◌++◌, length}
 use Rattle.std.proofs.Common.{map, refl, sym, ap, ap₂, subst, ◌∙◌, arith, ℤ, Some, append_assoc}
 use Rattle.std.specs.Bool.{IsTrue}
 use Rattle.std.specs.Fmt.{decimal, signed_decimal}
@@ -35,7 +35,7 @@ use Rattle.peak_bounds.specs.EventSets.{BlockerValue}
 use Rattle.peak_bounds.specs.Evidence.{IsAmount}
 use Rattle.bounded_plans.specs.BoundedPlan.{BoundedPlanValue, IsBlockerWithin, IsWithin, IsBoundedPlan}
 use Rattle.bounded_plans.specs.declared.evidence.BoundEvidence.{BoundEvidence}
-use Rattle.bounded_plans.specs.declared.evidence.BoundEvidence.TheVariants.{Sums, Claims}
+use Rattle.bounded_plans.specs.declared.evidence.BoundEvidence.TheVariants.{Sums, Claims, States}
 use Rattle.bounded_plan_files.specs.Printed.{event_word}
 use Rattle.bounded_plan_files.specs.Json.{amount_json, amounts_json, blocker_json, evidence_word, told_json, evidence_json, bounded_json_of}
 use Rattle.bounded_plan_files.specs.JsonValues.{amount_value, amounts_value, blocker_value, blockers_value, told_value}
@@ -118,6 +118,7 @@ told-text (Sums (Set set)) =
     set-members (amounts_value set.base) (blockers_value set.blockers) (amounts_json set.base) (array_json (map blocker_json set.blockers))
     (amounts-text set.base) (array-text blocker_value blocker_json blocker-text set.blockers)
 told-text (Claims claims) = array-text claim_value claim_json claim-text claims
+told-text (States most) = refl
 
 event-text : (event : Event) → compact_text (string (event_word event)) ≡ word_json (event_word event)
 unfolding serde_json_on_literals
@@ -132,11 +133,16 @@ claims-text : compact_text (string (codes "claims")) ≡ word_json (codes "claim
 unfolding serde_json_on_literals
 claims-text = refl
 
+states-text : compact_text (string (codes "states")) ≡ word_json (codes "states")
+unfolding serde_json_on_literals
+states-text = refl
+
 word-text : (evidence : BoundEvidence) → compact_text (string (evidence_word evidence)) ≡ word_json (evidence_word evidence)
 word-text (Sums Start) = need-text
 word-text (Sums (Need task)) = need-text
 word-text (Sums (Set set)) = event-text set.event
 word-text (Claims claims) = claims-text
+word-text (States most) = states-text
 
 -- an object of one member
 evidence-member : (word : List ℕ) (told : Data) (a b : List ℕ) → compact_text (string word) ≡ a → compact_text told ≡ b
@@ -187,6 +193,7 @@ told-whole (Sums Start) = refl
 told-whole (Sums (Need task)) = refl
 told-whole (Sums (Set set)) = rw (amounts-whole set.base, blockers-whole set.blockers) refl
 told-whole (Claims claims) = claims-whole claims
+told-whole (States most) = refl
 
 plan-whole : (plan : BoundedPlanValue) → has_float (bounded_plan_value plan) ≡ false
 plan-whole plan = rw (told-whole plan.evidence, order-whole plan.order) refl
@@ -232,6 +239,7 @@ plain-word (Sums (Set set)) = go set.event where
   go First = refl
   go Last = refl
 plain-word (Claims claims) = refl
+plain-word (States most) = refl
 
 plain-set : (a b : List ℕ) → ArePlain a → ArePlain b → ArePlain (codes "{\"base\":" ++ a ++ codes ",\"blockers\":" ++ b ++ codes "}")
 plain-set a b plain_a plain_b = simp (list_all-append, plain_a, plain_b)
@@ -297,6 +305,9 @@ module _ (number_token : (n : ℕ) → n < 2 ^ 64 → IsTrue (is_token (decimal 
         rising = is.rising;
         priority = inl refl;
       })).0
+  plain-told (States most) is =
+      let few : most ≤ most_number = is in
+      plain-number most (omega arith)
 
   plain-order : (plan : BoundedPlanValue) → IsBoundedPlan plan → ArePlain (array_json (map decimal plan.order))
   plain-order plan is =

@@ -23,7 +23,7 @@ use Rattle.peak_bounds.specs.EventSets.{BlockerValue, EventSetValue}
 use Rattle.peak_bounds.specs.Evidence.{IsAmount}
 use Rattle.bounded_plans.specs.BoundedPlan.{BoundedPlanValue, own_count, IsBlockerWithin, IsSetWithin, IsWithin, IsBoundedPlan}
 use Rattle.bounded_plans.specs.declared.evidence.BoundEvidence.{BoundEvidence}
-use Rattle.bounded_plans.specs.declared.evidence.BoundEvidence.TheVariants.{Sums, Claims}
+use Rattle.bounded_plans.specs.declared.evidence.BoundEvidence.TheVariants.{Sums, Claims, States}
 use Rattle.bounded_plan_files.specs.Printed.{amount_line, blocker_line, blocker_lines, event_word, set_lines, evidence_lines, bound_lines}
 use Rattle.bounded_plan_files.specs.Printed.{head_lines, bounded_plan_text}
 
@@ -169,6 +169,10 @@ evidence-within (Sums (Need task)) is =
     omega (arith, text-cons need [], short-section (codes "need") task (omega arith) (omega arith))
 evidence-within (Sums (Set set)) is = omega (arith, set-within set is)
 evidence-within (Claims claims) is = claims-within claims is.few is.each
+evidence-within (States most) is =
+    let few : most ≤ most_number = is in
+    let states = section_line (codes "states") most in
+    omega (arith, text-cons states [], short-section (codes "states") most (omega arith) (omega arith))
 
 -- ---- all lines
 

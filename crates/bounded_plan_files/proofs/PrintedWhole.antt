@@ -33,7 +33,7 @@ use Rattle.peak_bounds.specs.EventSets.{BlockerValue, EventSetValue}
 use Rattle.peak_bounds.specs.Evidence.{IsAmount}
 use Rattle.bounded_plans.specs.BoundedPlan.{BoundedPlanValue, own_count, IsBlockerWithin, IsSetWithin, IsWithin, IsBoundedPlan}
 use Rattle.bounded_plans.specs.declared.evidence.BoundEvidence.{BoundEvidence}
-use Rattle.bounded_plans.specs.declared.evidence.BoundEvidence.TheVariants.{Sums, Claims}
+use Rattle.bounded_plans.specs.declared.evidence.BoundEvidence.TheVariants.{Sums, Claims, States}
 use Rattle.bounded_plan_files.specs.BoundedPlanFile.{Stated, stated, nothing, sort_named, blockers_at, plan_stated, end_tests_after}
 use Rattle.bounded_plan_files.specs.BoundedPlanFile.{bounded_plan_format, ReadsBoundedPlan}
 use Rattle.bounded_plan_files.specs.Printed.{amount_line, blocker_line, blocker_lines, event_word, evidence_lines, bound_lines}
@@ -60,6 +60,7 @@ done s (Sums Start) = record s { stage = stages.Ended; sort = sorts.Need; task =
 done s (Sums (Need task)) = record s { stage = stages.Ended; sort = sorts.Need; task = task }
 done s (Sums (Set set)) = done_set s set.event set
 done s (Claims claims) = record s { stage = stages.Ended; sort = sorts.Claims; count = length claims; claims = claims }
+done s (States most) = record s { stage = stages.Ended; sort = sorts.States; states = most }
 
 abbrev set_rest : EventSetValue → List (List (List ℕ))
 set_rest set = section_line (codes "base") (length set.base)
@@ -97,6 +98,10 @@ evidence-leads laws s bound (Claims claims) is n =
     let lines = claims-lead laws at (length claims) [] claims (end_line ∷ []) (done (at_bound s bound) (Claims claims))
     is.each is.rising (omega arith) ends (n + 1) in
     rw (count, le-leb (length claims) most_positions is.few) (refl, lines)
+evidence-leads laws s bound (States most) is n =
+    let few : most ≤ most_number = is in
+    let number : number_of (decimal most) ≡ Some most = laws.value most (omega arith) in
+    rw (number, le-leb most most_number is) (refl, (refl, refl))
 
 -- ---- all lines
 
@@ -193,6 +198,7 @@ done-stated s (Sums (Set set)) is none =
     ∙ ap (λ (before : List BlockerValue).
     of_parts s (Sums (Set (record { event = set.event; base = set.base; blockers = before ++ set.blockers })))) none
 done-stated s (Claims claims) is none = refl
+done-stated s (States most) is none = refl
 
 done-ended : (s : Stated) (evidence : BoundEvidence) (past : ℕ) → first_failure (end_tests_after (done s evidence) past) ≡ None
 done-ended s (Sums Start) past = refl
@@ -202,6 +208,7 @@ done-ended s (Sums (Set set)) past =
     let is = after-is at set.blockers in
     rw is.stage refl
 done-ended s (Claims claims) past = refl
+done-ended s (States most) past = refl
 
 -- ---- the lines count
 
@@ -286,6 +293,9 @@ module _ (laws : AreLaws) where
   evidence-counted (Claims claims) is =
       let few = is.few in
       and_from _ _ (section_counted laws (codes "claims") (length claims) refl refl (omega arith)) (claims-counted claims is.each)
+  evidence-counted (States most) is =
+      let few : most ≤ most_number = is in
+      and_from _ _ (section_counted laws (codes "states") most refl refl (omega arith)) refl
 
   lines-counted : (plan : BoundedPlanValue) → IsBoundedPlan plan → list_all (is_counted Commented) (all_lines plan) ≡ true
   lines-counted plan is =

@@ -37,15 +37,14 @@ claims_push s n rows row =
       | inr p ↦ rw (p.same, p.later) (end_push s n (map claim_on (take n rows)) (drop n rows) row p.full)
     ]
 
--- ---- the need of a task
+-- ---- the need of a task, or how many states: nothing but `end` is to come
 
-abbrev pub at_need : Stated → ℕ → Stated
-at_need s task = record s { stage = stages.End; sort = sorts.Need; task = task }
+abbrev at_end : Stated → Stated
+at_end s = record s { stage = stages.End }
 
-need_push : (s : Stated) (task : ℕ) (rows : List Row) (row : Row)
-    → with_end (at_need s task) (rows ++ row ∷ []) ≡ next (with_end (at_need s task) rows) row
-need_push s task [] row = refl
-need_push s task (last ∷ rows) row = refl
+last_push : (s : Stated) (rows : List Row) (row : Row) → with_end (at_end s) (rows ++ row ∷ []) ≡ next (with_end (at_end s) rows) row
+last_push s [] row = refl
+last_push s (last ∷ rows) row = refl
 
 -- ---- a base and blockers
 
@@ -133,16 +132,18 @@ sort_one : (sort : Sort) (s : Stated) (line : Row) → with_sort sort s line [] 
 sort_one sorts.Need s line = refl
 sort_one sorts.First s line = refl
 sort_one sorts.Last s line = refl
+sort_one sorts.States s line = refl
 sort_one sorts.Claims s line =
     let n = stated_on (codes "claims") line in
     rw (drop-nil n, take-nil n) refl
 
 sort_push : (sort : Sort) (s : Stated) (line : Row) (rows : List Row) (row : Row)
     → with_sort sort s line (rows ++ row ∷ []) ≡ next (with_sort sort s line rows) row
-sort_push sorts.Need s line rows row = need_push s (stated_on (codes "need") line) rows row
+sort_push sorts.Need s line rows row = last_push (record s { sort = sorts.Need; task = stated_on (codes "need") line }) rows row
 sort_push sorts.First s line rows row = base_push s sorts.First (stated_on (codes "first") line) rows row
 sort_push sorts.Last s line rows row = base_push s sorts.Last (stated_on (codes "last") line) rows row
 sort_push sorts.Claims s line rows row = claims_push (record s { sort = sorts.Claims }) (stated_on (codes "claims") line) rows row
+sort_push sorts.States s line rows row = last_push (record s { sort = sorts.States; states = stated_on (codes "states") line }) rows row
 
 abbrev pub at_bound : Stated → ℕ → Stated
 at_bound s bound = record s { stage = stages.Evidence; bound = bound }

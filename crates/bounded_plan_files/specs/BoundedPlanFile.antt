@@ -28,7 +28,7 @@ use Rattle.peak_bounds.specs.declared.evidence.Evidence.TheVariants as evidence
 use Rattle.peak_bounds.specs.EventSets.{BlockerValue, EventSetValue}
 use Rattle.bounded_plans.specs.BoundedPlan.{BoundedPlanValue}
 use Rattle.bounded_plans.specs.declared.evidence.BoundEvidence.{BoundEvidence}
-use Rattle.bounded_plans.specs.declared.evidence.BoundEvidence.TheVariants.{Sums, Claims}
+use Rattle.bounded_plans.specs.declared.evidence.BoundEvidence.TheVariants.{Sums, Claims, States}
 use Rattle.bounded_plan_files.specs.declared.sort.Sort.{Sort}
 use Rattle.bounded_plan_files.specs.declared.sort.Sort.TheVariants as sorts
 use Rattle.bounded_plan_files.specs.declared.stage.Stage.{Stage}
@@ -50,16 +50,17 @@ bound_tests row =
     section_tests (codes "bound") kinds.Section kinds.Number row
     ++ test (nat_le (stated_on (codes "bound") row) most_total) (fault kinds.Number row) ∷ []
 
--- ---- the line of the evidence: `need T`, `first B`, `last B` or `claims C`
+-- ---- the line of the evidence: `need T`, `first B`, `last B`, `claims C` or `states K`
 
 abbrev pub sort_word : Sort → List ℕ
 sort_word sorts.Need = codes "need"
 sort_word sorts.First = codes "first"
 sort_word sorts.Last = codes "last"
 sort_word sorts.Claims = codes "claims"
+sort_word sorts.States = codes "states"
 
 abbrev pub all_sorts : List Sort
-all_sorts = sorts.Need ∷ sorts.First ∷ sorts.Last ∷ sorts.Claims ∷ []
+all_sorts = sorts.Need ∷ sorts.First ∷ sorts.Last ∷ sorts.Claims ∷ sorts.States ∷ []
 
 -- the sort whose word begins a line of two tokens
 unfoldable pub sort_named : List (List ℕ) → Option Sort
@@ -69,7 +70,7 @@ sort_named tokens = find (λ sort. is_some (after_word (sort_word sort) tokens))
 abbrev pub sort_on : Row → Sort
 sort_on row = unwrap_or (sort_named row.tokens) sorts.Need
 
--- the number behind the word: a task, or 0 for none; or how many blockers or claims there are
+-- the number behind the word: a task, or 0 for none; how many blockers or claims there are; or how many states are looked at, at most
 abbrev pub sort_tests : Sort → Row → List (Test PlanKind)
 sort_tests sorts.Need row =
     section_tests (codes "need") kinds.Section kinds.Number row
@@ -77,6 +78,9 @@ sort_tests sorts.Need row =
 sort_tests sorts.First row = count_tests (codes "first") kinds.Section kinds.Number most_tasks limits.Tasks row
 sort_tests sorts.Last row = count_tests (codes "last") kinds.Section kinds.Number most_tasks limits.Tasks row
 sort_tests sorts.Claims row = claims_section_tests row
+sort_tests sorts.States row =
+    section_tests (codes "states") kinds.Section kinds.Number row
+    ++ test (nat_le (stated_on (codes "states") row) most_number) (fault kinds.Number row) ∷ []
 
 abbrev pub evidence_tests : Row → List (Test PlanKind)
 evidence_tests row = sort_tests (sort_on row) row
@@ -121,7 +125,8 @@ amount_tests before row =
 -- ---- what some lines of a file state, section by section
 
 -- which line comes next, how many lines the section at hand has, how many blockers are to come, how many amounts were stated, and what the
--- lines say: `task` is that of `need T` or of the blocker at hand, `own` are its amounts, and `blockers` those before it
+-- lines say: `task` is that of `need T` or of the blocker at hand, `own` are its amounts, `blockers` those before it, and `states` is the number
+-- of `states K`
 pub record Stated : Type 0 where
   pub stage : Stage
   pub count : ℕ
@@ -132,6 +137,7 @@ pub record Stated : Type 0 where
   pub bound : ℕ
   pub sort : Sort
   pub task : ℕ
+  pub states : ℕ
   pub claims : List Claim
   pub base : List Amount
   pub own : List Amount
@@ -148,6 +154,7 @@ nothing = record {
   bound = 0;
   sort = sorts.Need;
   task = 0;
+  states = 0;
   claims = [];
   base = [];
   own = [];
@@ -205,6 +212,8 @@ with_sort sorts.First s line rows =
 with_sort sorts.Last s line rows =
     with_base (record s { stage = stages.BaseSection; sort = sorts.Last; left = stated_on (codes "last") line }) rows
 with_sort sorts.Claims s line rows = with_claims (stated_on (codes "claims") line) (record s { sort = sorts.Claims }) rows
+with_sort sorts.States s line rows =
+    with_end (record s { stage = stages.End; sort = sorts.States; states = stated_on (codes "states") line }) rows
 
 -- the lines after `bound L`
 abbrev pub with_evidence : Stated → List Row → Stated
@@ -282,6 +291,7 @@ evidence_stated sorts.Need s = Sums (need_stated s.task)
 evidence_stated sorts.First s = Sums (evidence.Set (set_stated events.First s))
 evidence_stated sorts.Last s = Sums (evidence.Set (set_stated events.Last s))
 evidence_stated sorts.Claims s = Claims s.claims
+evidence_stated sorts.States s = States s.states
 
 abbrev pub plan_stated : Stated → BoundedPlanValue
 plan_stated s = record { order = s.order; peak = s.peak; bound = s.bound; evidence = evidence_stated s.sort s }

@@ -8,7 +8,7 @@ use Rattle.peak_bounds.specs.declared.evidence.Evidence.TheVariants.{Start, Need
 use Rattle.peak_bounds.specs.EventSets.{BlockerValue, EventSetValue}
 use Rattle.bounded_plans.specs.BoundedPlan.{BoundedPlanValue}
 use Rattle.bounded_plans.specs.declared.evidence.BoundEvidence.{BoundEvidence}
-use Rattle.bounded_plans.specs.declared.evidence.BoundEvidence.TheVariants.{Sums, Claims}
+use Rattle.bounded_plans.specs.declared.evidence.BoundEvidence.TheVariants.{Sums, Claims, States}
 use Rattle.bounded_plan_files.specs.Printed.{event_word}
 
 -- `[place,amount]`
@@ -32,13 +32,15 @@ evidence_word (Sums Start) = codes "need"
 evidence_word (Sums (Need task)) = codes "need"
 evidence_word (Sums (Set set)) = event_word set.event
 evidence_word (Claims claims) = codes "claims"
+evidence_word (States most) = codes "states"
 
--- and what is told behind it: a task, which is 0 for none; a set; or claims
+-- and what is told behind it: a task, which is 0 for none; a set; claims; or how many states are looked at, at most
 abbrev pub told_json : BoundEvidence → List ℕ
 told_json (Sums Start) = decimal 0
 told_json (Sums (Need task)) = decimal task
 told_json (Sums (Set set)) = set_json set
 told_json (Claims claims) = array_json (map claim_json claims)
+told_json (States most) = decimal most
 
 -- an object of one member
 abbrev pub evidence_json : BoundEvidence → List ℕ

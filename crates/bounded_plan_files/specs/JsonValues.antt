@@ -8,7 +8,7 @@ use Rattle.peak_bounds.specs.declared.evidence.Evidence.TheVariants.{Start, Need
 use Rattle.peak_bounds.specs.EventSets.{BlockerValue, EventSetValue}
 use Rattle.bounded_plans.specs.BoundedPlan.{BoundedPlanValue}
 use Rattle.bounded_plans.specs.declared.evidence.BoundEvidence.{BoundEvidence}
-use Rattle.bounded_plans.specs.declared.evidence.BoundEvidence.TheVariants.{Sums, Claims}
+use Rattle.bounded_plans.specs.declared.evidence.BoundEvidence.TheVariants.{Sums, Claims, States}
 use Rattle.bounded_plan_files.specs.Json.{evidence_word}
 
 -- an amount is sent as a signed number, also where it is not negative
@@ -36,6 +36,7 @@ told_value (Sums Start) = number (unsigned 0)
 told_value (Sums (Need task)) = number (unsigned task)
 told_value (Sums (Set set)) = set_value set
 told_value (Claims claims) = array (items_of (map claim_value claims))
+told_value (States most) = number (unsigned most)
 
 abbrev pub evidence_value : BoundEvidence → Data
 evidence_value evidence = object (member (evidence_word evidence) (told_value evidence) no_members)

@@ -12,7 +12,7 @@ use Rattle.peak_bounds.specs.declared.evidence.Evidence.TheVariants.{Start, Need
 use Rattle.peak_bounds.specs.EventSets.{BlockerValue, EventSetValue}
 use Rattle.bounded_plans.specs.BoundedPlan.{BoundedPlanValue}
 use Rattle.bounded_plans.specs.declared.evidence.BoundEvidence.{BoundEvidence}
-use Rattle.bounded_plans.specs.declared.evidence.BoundEvidence.TheVariants.{Sums, Claims}
+use Rattle.bounded_plans.specs.declared.evidence.BoundEvidence.TheVariants.{Sums, Claims, States}
 
 abbrev pub amount_line : Amount → List (List ℕ)
 amount_line a = decimal a.place ∷ signed_decimal a.amount ∷ []
@@ -40,6 +40,7 @@ evidence_lines (Sums Start) = section_line (codes "need") 0 ∷ []
 evidence_lines (Sums (Need task)) = section_line (codes "need") task ∷ []
 evidence_lines (Sums (Set set)) = set_lines set
 evidence_lines (Claims claims) = claim_lines claims
+evidence_lines (States most) = section_line (codes "states") most ∷ []
 
 -- the bound and its evidence
 abbrev pub bound_lines : ℕ → BoundEvidence → List (List (List ℕ))

@@ -28,6 +28,7 @@ sort_next sorts.Need s row = record s { stage = stages.End; sort = sorts.Need; t
 sort_next sorts.First s row = record s { stage = stages.BaseSection; sort = sorts.First; left = stated_on (codes "first") row }
 sort_next sorts.Last s row = record s { stage = stages.BaseSection; sort = sorts.Last; left = stated_on (codes "last") row }
 sort_next sorts.Claims s row = record s { stage = stages.Claims; sort = sorts.Claims; count = stated_on (codes "claims") row; claims = [] }
+sort_next sorts.States s row = record s { stage = stages.End; sort = sorts.States; states = stated_on (codes "states") row }
 
 abbrev pub with_claim : Stated → Row → Stated
 with_claim s row = record s { claims = s.claims ++ claim_on row ∷ [] }

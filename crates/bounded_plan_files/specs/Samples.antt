@@ -17,10 +17,10 @@ use Rattle.plan_files.specs.declared.kind.PlanKind.TheVariants as kinds
 use Rattle.peak_bounds.specs.Samples.{leaves}
 use Rattle.peak_bounds.specs.declared.evidence.Evidence.TheVariants.{Start, Need, Set}
 use Rattle.bounded_plans.specs.BoundedPlan.{BoundedPlanValue}
-use Rattle.bounded_plans.specs.declared.evidence.BoundEvidence.TheVariants.{Sums}
+use Rattle.bounded_plans.specs.declared.evidence.BoundEvidence.TheVariants.{Sums, States}
 use Rattle.bounded_plan_files.specs.BoundedPlanFile.{sort_named, stated, plan_stated, bounded_plan_format}
 use Rattle.bounded_plan_files.specs.Printed.{bounded_plan_text, bound_text}
-use Rattle.bounded_plan_files.specs.Json.{bounded_json_of}
+use Rattle.bounded_plan_files.specs.Json.{evidence_json, bounded_json_of}
 
 -- one of the leaves starts last, and then the memory is 11; the task that reads most needs 10
 abbrev pub five : BoundedPlanValue
@@ -42,11 +42,19 @@ pub printed_start : bound_text 0 (Sums Start) ≡ codes "bound 0\nneed 0\nend\n"
 unfolding digits
 printed_start = refl
 
+pub printed_states : bound_text 12 (States 7) ≡ codes "bound 12\nstates 7\nend\n"
+unfolding digits
+printed_states = refl
+
 pub json : bounded_json_of five
     ≡ codes "{\"bound\":11,\"evidence\":{\"last\":{\"base\":[[1,1],[2,1]],\"blockers\":[[1,[[1,0],[2,0],[3,1],[4,1]]],[3,[]]]}},"
     ++ codes "\"order\":[1,3,2,4,5],\"peak\":11}"
 unfolding digits
 json = refl
+
+pub json_states : evidence_json (States 7) ≡ codes "{\"states\":7}"
+unfolding digits
+json_states = refl
 
 -- ---- reading
 
@@ -66,19 +74,25 @@ pub stated_start : plan_stated (stated (rows_of_bytes Commented (bounded (codes 
 unfolding lines_of tokens_of number_of number_from rows_from after_word sort_named stated
 stated_start = refl
 
+pub stated_states : plan_stated (stated (rows_of_bytes Commented (bounded (codes "bound 7\nstates 12\nend\n"))))
+    ≡ record { order = []; peak = 0; bound = 7; evidence = States 12 }
+unfolding lines_of tokens_of number_of number_from rows_from after_word sort_named stated
+stated_states = refl
+
 -- the first test of a file's lines and of its end that fails, if one does
 abbrev pub refusal_of : List ℕ → Option (Refusal PlanKind)
 refusal_of bytes =
     let rows = rows_of_bytes Commented bytes in
     first_failure (tests_of_all bounded_plan_format.line_tests [] rows ++ bounded_plan_format.end_tests rows (past_of_bytes bytes))
 
--- files that are read; another version; no evidence; no end; places that do not rise; a blocker too few and one too many; a claim of three
--- tokens; amounts past the limit
+-- files that are read; another version; no evidence; no end; states without a number, with a word for it, too many, and said twice; places that
+-- do not rise; a blocker too few and one too many; a claim of three tokens; amounts past the limit
 pub read_of : map refusal_of (
     bounded (codes "bound 0\nneed 1\nend\n")
+    ∷ bounded (codes "bound 0\nstates 4294967295\nend\n")
     ∷ bounded (codes "bound 0\nclaims 1\n3 R 2 0\nend\n")
     ∷ bounded (codes "bound 0\nfirst 1\nbase 1\n7 -5\nblocker 2 1\n7 5\nend\n")
-    ∷ []) ≡ None ∷ None ∷ None ∷ []
+    ∷ []) ≡ None ∷ None ∷ None ∷ None ∷ []
 unfolding lines_of tokens_of number_of number_from signed_of rows_from after_word sort_named dir_named stated
 read_of = refl
 
@@ -86,12 +100,18 @@ pub refusals_of : map refusal_of (
     codes "plan 2\n"
     ∷ bounded (codes "bound 0\nsome 1\n")
     ∷ bounded (codes "bound 0\nneed 1\n")
+    ∷ bounded (codes "bound 0\nstates\n")
+    ∷ bounded (codes "bound 0\nstates x\n")
+    ∷ bounded (codes "bound 0\nstates 4294967296\n")
+    ∷ bounded (codes "bound 0\nstates 7\nstates 7\n")
     ∷ bounded (codes "bound 0\nfirst 0\nbase 2\n2 1\n2 1\n")
     ∷ bounded (codes "bound 0\nlast 1\nbase 0\nend\n")
     ∷ bounded (codes "bound 0\nlast 0\nbase 0\nblocker 1 0\n")
     ∷ bounded (codes "bound 0\nclaims 1\n3 R 2\n")
     ∷ (bounded (codes "bound 0\nlast 1\nbase 1\n1 1\nblocker 1 ") ++ decimal most_positions ++ codes "\n")
     ∷ []) ≡ Some (fault_at 1 kinds.Header) ∷ Some (fault_at 5 kinds.Section) ∷ Some (fault_at 6 kinds.NoEnd)
+    ∷ Some (fault_at 5 kinds.Section) ∷ Some (fault_at 5 kinds.Number) ∷ Some (fault_at 5 kinds.Number)
+    ∷ Some (fault_at 6 kinds.NoEnd)
     ∷ Some (fault_at 8 kinds.Amount) ∷ Some (fault_at 7 kinds.Section) ∷ Some (fault_at 7 kinds.NoEnd)
     ∷ Some (fault_at 6 kinds.Claim) ∷ Some (refusals.Limit limits.Positions) ∷ []
 unfolding digits lines_of tokens_of number_of number_from signed_of rows_from after_word sort_named dir_named stated

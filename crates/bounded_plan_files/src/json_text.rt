@@ -93,6 +93,7 @@ fn evidence_word(evidence: &BoundEvidence) -> &'static str
         BoundEvidence::Sums(Evidence::Need(_)) => "need",
         BoundEvidence::Sums(Evidence::Set(set)) => event_word(set.event()),
         BoundEvidence::Claims(_) => "claims",
+        BoundEvidence::States(_) => "states",
     }
 }
 
@@ -105,6 +106,7 @@ fn send_told<S: Serializer>(evidence: &BoundEvidence, out: &mut S) -> Result<(),
         BoundEvidence::Sums(Evidence::Need(task)) => task.serialize(out),
         BoundEvidence::Sums(Evidence::Set(set)) => send_set(set, out),
         BoundEvidence::Claims(claims) => send_claims(claims.claims(), out),
+        BoundEvidence::States(most) => most.serialize(out),
     }
 }
 
@@ -144,8 +146,8 @@ impl Serialize for BoundedPlanJson<'_> {
 
 /// A plan as JSON without blanks: an object of its bound, its evidence, its order and its peak, as in
 /// `{"bound":7,"evidence":{"need":1},"order":[1],"peak":9}`. Evidence is an object of one member: `need` with a task, 0 for what is there at
-/// the start; `first` or `last` with `{"base":[[place,amount],..],"blockers":[[task,[[place,amount],..]],..]}`; or `claims` with claims as
-/// `plan_json` writes them. Linear in the tasks and the evidence.
+/// the start; `first` or `last` with `{"base":[[place,amount],..],"blockers":[[task,[[place,amount],..]],..]}`; `claims` with claims as
+/// `plan_json` writes them; or `states` with how many states are looked at from the end, at most. Linear in the tasks and the evidence.
 pub fn bounded_plan_json(alloc: Global, plan: &BoundedPlan) -> Result<String, NoMemory>
     ensures text { IfOk result (λ text. string_bytes text ≡ bounded_json_of plan.now) }
     ensures token { IfOk result (λ text. IsTrue (is_token (string_bytes text))) }

@@ -50,6 +50,18 @@ pub fn need_on(line: Line<'_>) -> Result<u32, Refusal<PlanKind>>
     Ok(task as u32)
 }
 
+/// `states K`: how many states are looked at from the end, at most.
+pub fn states_on(line: Line<'_>) -> Result<u32, Refusal<PlanKind>>
+    ensures { let r = row line.entry.number line.entry.text.now in
+        Gives (tested (sort_tests sorts.States r) (stated_on (codes "states") r)) result }
+{
+    let most = number_on(line, b"states", PlanKind::Section, PlanKind::Number)?;
+    if most > MOST_NUMBER {
+        return Err(fault(line.number, PlanKind::Number));
+    }
+    Ok(most as u32)
+}
+
 /// `first B`: the number of blockers.
 pub fn first_on(line: Line<'_>) -> Result<u64, Refusal<PlanKind>>
     ensures judged { let r = row line.entry.number line.entry.text.now in

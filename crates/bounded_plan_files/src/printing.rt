@@ -98,6 +98,7 @@ fn print_evidence(evidence: &BoundEvidence, report: &mut Report) -> Result<(), N
         ),
         BoundEvidence::Sums(Evidence::Set(set)) => print_set(set, report),
         BoundEvidence::Claims(claims) => print_claims(claims.claims(), report),
+        BoundEvidence::States(most) => print_section("states", u64::from(*most), report),
     }
 }
 

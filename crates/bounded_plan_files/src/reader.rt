@@ -11,7 +11,8 @@ ghost use Rattle.bounded_plan_files.specs.Reader.{sort_next, with_base_amount, w
 
 use crate::NoMemory;
 use crate::lines::{
-    amount_on, base_on, blocker_on, bound_on, first_on, last_on, need_on, third_header_on,
+    amount_on, base_on, blocker_on, bound_on, first_on, last_on, need_on, states_on,
+    third_header_on,
 };
 use crate::sort::{Sort, sort_named};
 use crate::stage::Stage;
@@ -39,6 +40,8 @@ pub struct BoundedPlanReader {
     pub sort: Sort,
     // of `need T`, 0 for none, or of the blocker at hand, with its amounts and those before it
     pub task: u32,
+    // of `states K`
+    pub states: u32,
     pub claims: Vec<Claim>,
     pub base: Vec<Amount>,
     own: Vec<Amount>,
@@ -58,6 +61,7 @@ impl Model for BoundedPlanReader {
       bound = s.bound;
       sort = s.sort;
       task = s.task;
+      states = s.states;
       claims = s.claims.items;
       base = s.base.items;
       own = s.own.items;
@@ -94,6 +98,7 @@ impl BoundedPlanReader {
             bound: 0,
             sort: Sort::Need,
             task: 0,
+            states: 0,
             claims: Vec::new(alloc),
             base: Vec::new(alloc),
             own: Vec::new(alloc),
@@ -139,6 +144,10 @@ impl BoundedPlanReader {
                 self.count = claims_section_on(line)?;
                 self.claims = Vec::new(self.alloc);
                 self.stage = Stage::Claims;
+            }
+            Sort::States => {
+                self.states = states_on(line)?;
+                self.stage = Stage::End;
             }
         }
         self.sort = sort;
@@ -333,6 +342,7 @@ impl BoundedPlanReader {
             bound,
             sort,
             task,
+            states,
             claims,
             base,
             blockers,
@@ -351,6 +361,7 @@ impl BoundedPlanReader {
                 blockers,
             ))),
             Sort::Claims => BoundEvidence::Claims(ClaimList::new(claims)),
+            Sort::States => BoundEvidence::States(states),
         };
         BoundedPlan::new(order, peak, bound, evidence)
     }

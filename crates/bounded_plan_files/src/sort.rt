@@ -4,13 +4,15 @@ ghost use Rattle.bounded_plan_files.specs.BoundedPlanFile.{sort_word, sort_named
 
 use file_frame::after_word;
 
-/// What the evidence of a file is: the need of a task, that one of some tasks starts first, or last, or claims.
+/// What the evidence of a file is: the need of a task, that one of some tasks starts first, or last, claims, or that so many states are enough
+/// to look at from the end.
 #[derive(Clone, Copy, Debug, PartialEq, Eq)]
 pub enum Sort {
     Need,
     First,
     Last,
     Claims,
+    States,
 }
 
 impl Sort {
@@ -23,6 +25,7 @@ impl Sort {
             Sort::First => "first",
             Sort::Last => "last",
             Sort::Claims => "claims",
+            Sort::States => "states",
         }
     }
 }
@@ -32,8 +35,14 @@ impl Sort {
 pub fn sort_named(text: &[u8]) -> Option<Sort>
     ensures { result ≡ sort_named (tokens_of text.now) }
 {
-    [Sort::Need, Sort::First, Sort::Last, Sort::Claims]
-        .iter()
-        .copied()
-        .find(|sort| after_word(text, sort.word().as_bytes()).is_some())
+    [
+        Sort::Need,
+        Sort::First,
+        Sort::Last,
+        Sort::Claims,
+        Sort::States,
+    ]
+    .iter()
+    .copied()
+    .find(|sort| after_word(text, sort.word().as_bytes()).is_some())
 }

@@ -9,7 +9,7 @@ pub enum Stage {
     Order,
     /// `bound L`.
     Bound,
-    /// `need T`, `first B`, `last B` or `claims C`.
+    /// `need T`, `first B`, `last B`, `claims C` or `states K`.
     Evidence,
     /// A claim line, or after the last of them `end`.
     Claims,

@@ -17,7 +17,7 @@ const FIVE_JSON: &str = "{\"bound\":11,\"evidence\":{\"last\":{\"base\":[[1,1],[
     \"blockers\":[[1,[[1,0],[2,0],[3,1],[4,1]]],[3,[]]]}},\"order\":[1,3,2,4,5],\"peak\":11}";
 
 // Files, the part of each that has the bound and its evidence, and its JSON.
-const FILES: [(&str, &str, &str); 5] = [
+const FILES: [(&str, &str, &str); 6] = [
     (FIVE, FIVE_BOUND, FIVE_JSON),
     (
         "plan 3\norder 1\n1\npeak 3\nbound 2\nneed 1\nend\n",
@@ -38,6 +38,11 @@ const FILES: [(&str, &str, &str); 5] = [
         "plan 3\norder 1\n1\npeak 9\nbound 9\nclaims 1\n3 R 8 7\nend\n",
         "bound 9\nclaims 1\n3 R 8 7\nend\n",
         r#"{"bound":9,"evidence":{"claims":[[3,"R",8,7]]},"order":[1],"peak":9}"#,
+    ),
+    (
+        "plan 3\norder 2\n2\n1\npeak 6\nbound 6\nstates 7\nend\n",
+        "bound 6\nstates 7\nend\n",
+        r#"{"bound":6,"evidence":{"states":7},"order":[2,1],"peak":6}"#,
     ),
 ];
 
@@ -73,7 +78,7 @@ fn writes_json(rt: HostRuntime) -> Result<(), Fail> {
 }
 
 // Texts, and the line and the kind of their first fault.
-const REFUSED: [(&str, u64, PlanKind); 14] = [
+const REFUSED: [(&str, u64, PlanKind); 19] = [
     ("plan 2\n", 1, PlanKind::Header),
     ("plan 3 3\n", 1, PlanKind::Header),
     ("plan 3\norder 0\npeak 0\nneed 1\n", 4, PlanKind::Section),
@@ -90,6 +95,31 @@ const REFUSED: [(&str, u64, PlanKind); 14] = [
     ),
     (
         "plan 3\norder 0\npeak 0\nbound 0\nneed 1\n",
+        6,
+        PlanKind::NoEnd,
+    ),
+    (
+        "plan 3\norder 0\npeak 0\nbound 0\nstates\n",
+        5,
+        PlanKind::Section,
+    ),
+    (
+        "plan 3\norder 0\npeak 0\nbound 0\nstates x\n",
+        5,
+        PlanKind::Number,
+    ),
+    (
+        "plan 3\norder 0\npeak 0\nbound 0\nstates 4294967296\n",
+        5,
+        PlanKind::Number,
+    ),
+    (
+        "plan 3\norder 0\npeak 0\nbound 0\nstates 7 7\n",
+        5,
+        PlanKind::Section,
+    ),
+    (
+        "plan 3\norder 0\npeak 0\nbound 0\nstates 7\nneed 1\nend\n",
         6,
         PlanKind::NoEnd,
     ),

@@ -9,7 +9,7 @@ use Rattle.peak_bounds.specs.EventSets.{BlockerValue, EventSetValue}
 use Rattle.peak_bounds.specs.Evidence.{AreAmounts}
 use Rattle.peak_bounds.specs.declared.evidence.Evidence.TheVariants.{Start, Need, Set}
 use Rattle.bounded_plans.specs.declared.evidence.BoundEvidence.{BoundEvidence}
-use Rattle.bounded_plans.specs.declared.evidence.BoundEvidence.TheVariants.{Sums, Claims}
+use Rattle.bounded_plans.specs.declared.evidence.BoundEvidence.TheVariants.{Sums, Claims, States}
 
 -- a plan with a bound, as clauses see it
 pub record BoundedPlanValue : Type 0 where
@@ -49,6 +49,7 @@ IsWithin (Sums Start) = Unit {0}
 IsWithin (Sums (Need task)) = (1 ≤ task) × (task ≤ most_number)
 IsWithin (Sums (Set set)) = IsSetWithin set
 IsWithin (Claims claims) = AreClaimsWithin claims
+IsWithin (States most) = most ≤ most_number
 
 pub record IsBoundedPlan (plan : BoundedPlanValue) : Type 0 where
   pub few_tasks : length plan.order ≤ most_tasks

@@ -40,4 +40,6 @@ pub enum BoundEvidence {
     Sums(Evidence),
     /// Claims on the parts of a term: of a system that is one.
     Claims(ClaimList),
+    /// No more states than so many are looked at from the end, and none of them is the start: of a small system.
+    States(u32),
 }

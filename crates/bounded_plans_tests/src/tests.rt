@@ -1,4 +1,4 @@
-use bounded_plans::evidence_within;
+use bounded_plans::{BoundEvidence, BoundedPlan, evidence_within};
 use peak_bounds::{Amount, Blocker, Event, EventSet, Evidence};
 use std::alloc::{AllocError, Global};
 use std::process::Abort;
@@ -62,4 +62,19 @@ fn task_0_is_no_task(rt: HostRuntime) {
     assert!(rt; evidence_within(&Evidence::Start));
     assert!(rt; evidence_within(&Evidence::Need(1)));
     assert!(rt; !evidence_within(&Evidence::Need(0)));
+}
+
+// Any number of states may be told, also none and the most that a number can be.
+#[test]
+fn a_plan_tells_how_many_states_are_looked_at(rt: HostRuntime) -> Result<(), Fail> {
+    let alloc = rt.alloc();
+    for most in [0, 7, 4294967295] {
+        let plan = BoundedPlan::new(Vec::new(alloc), 5, 4, BoundEvidence::States(most));
+        let told = match plan.evidence() {
+            BoundEvidence::States(states) => Some(*states),
+            _ => None,
+        };
+        assert_eq!(rt; told, Some(most));
+    }
+    Ok(())
 }
