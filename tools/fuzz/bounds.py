@@ -107,8 +107,8 @@ class Trial:
         if self.orders.get(tuple(plan.order)) != plan.peak or plan.bound > min(plan.peak, self.least) or (most is not None and plan.peak > most):
             yield f"plan {plan}, where the least peak is {self.least} and that of the order {most}"
         verdict = f"yes {plan.peak} least\n" if plan.bound == plan.peak else f"yes {plan.peak} above {plan.bound}\n"
-        if plan.word != "claims" and self.judge.verdict(plan) != verdict:
-            yield f"the plain judge says of {plan}: {self.judge.verdict(plan)}"
+        if plan.word != "claims" and self.judge.verdicts(plan) != [verdict]:
+            yield f"the plain judge says of {plan}: {self.judge.verdicts(plan)}"
         self.bench.write("p", text)
         checked = self.bench.run(["check", "--graph", "g", "--plan", "p"])
         if checked != Ending(DONE, verdict.encode(), b""):
@@ -127,8 +127,8 @@ class Trial:
         needs = [self.system.memory(0), *map(self.system.own_need, range(1, self.system.count + 1))]
         if not max(needs) <= bound <= self.least:
             yield f"bound {bound}, where the least peak is {self.least} and a task needs {max(needs)}"
-        if objection := self.judge.objection(BoundedPlan([], 0, bound, *evidence_of(lines[1:]))):
-            yield f"the evidence for {bound} is objected to: {objection}"
+        if objections := self.judge.objections(BoundedPlan([], 0, bound, *evidence_of(lines[1:]))):
+            yield f"the evidence for {bound} is objected to: {objections}"
 
     def plans(self, plan: BoundedPlan) -> Iterator[BoundedPlan]:
         """The plan, one of least peak, and others that are changed."""
@@ -139,10 +139,20 @@ class Trial:
         yield plan._replace(peak=plan.peak + draw.choice([-1, 1]) if plan.peak else 1)
         yield plan._replace(bound=max(0, plan.bound + draw.choice([-1, 1, 1, 1, 2])))
         yield plan._replace(order=no_traversal(draw, self.system))
-        yield plan._replace(word="need", task=draw.randint(0, self.system.count + 1), bound=draw.randint(0, self.least + 1), base=[], blockers=[])
-        if plan.word != "need":
+        without_set = plan._replace(base=[], blockers=[], bound=draw.randint(0, self.least + 1))
+        yield without_set._replace(word="need", number=draw.randint(0, self.system.count + 1))
+        yield from self.plans_by_states(without_set._replace(order=list(best), peak=self.least, word="states"))
+        if plan.word in ("first", "last"):
             for _ in range(4):
                 yield self.changed_set(plan)
+
+    def plans_by_states(self, plan: BoundedPlan) -> Iterator[BoundedPlan]:
+        """The least peak shown by states, with as many as there are or one too few; and other bounds and numbers."""
+        count = len(self.judge.states_below(self.least, 2**self.system.count))
+        yield plan._replace(bound=self.least, number=count)
+        yield plan._replace(bound=self.least, number=max(0, count - 1))
+        yield plan._replace(bound=self.least + 1, number=2**self.system.count)
+        yield plan._replace(number=self.draw.choice([0, count, 2**self.system.count, 2**32 - 1]))
 
     def changed_set(self, plan: BoundedPlan) -> BoundedPlan:
         draw = self.draw
@@ -173,21 +183,21 @@ class Trial:
         found = self.bench.run(["check", "--graph", "g", "--plan", "p", *self.draw.choice([[], ["--workers", str(self.draw.randint(1, 4))]])])
         _, refusal = formats.refusal_of(lambda: formats.read_bounded_plan(text))
         if refusal:
-            wanted = Ending(FORMAT if refusal.startswith("format") else LIMIT, f"refused {refusal}\n".encode(), b"")
+            wanted = [Ending(FORMAT if refusal.startswith("format") else LIMIT, f"refused {refusal}\n".encode(), b"")]
         else:
-            verdict = self.verdict(text)
-            if verdict is None:
+            verdicts = self.verdicts(text)
+            if not verdicts:
                 return
-            wanted = Ending(DONE if verdict.startswith("yes") else NO, verdict.encode(), b"")
-        if found != wanted:
+            wanted = [Ending(DONE if verdict.startswith("yes") else NO, verdict.encode(), b"") for verdict in verdicts]
+        if found not in wanted:
             yield f"check: {found} in place of {wanted} of {text!r}"
         elif found.status == DONE and bounded_plan_of(text).bound > self.least:
             yield f"a bound above the least peak {self.least} is accepted: {text!r}"
 
-    def verdict(self, text: bytes) -> Optional[str]:
-        """The plain judge's, but for claims, which it knows nothing of."""
+    def verdicts(self, text: bytes) -> list[str]:
+        """The plain judge's; none of claims, which it knows nothing of."""
         plan = bounded_plan_of(text)
-        return None if plan.word == "claims" else self.judge.verdict(plan)
+        return [] if plan.word == "claims" else self.judge.verdicts(plan)
 
 
 class Worker:

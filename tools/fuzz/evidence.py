@@ -1,7 +1,15 @@
-"""A plain judge of plans with a bound, written from docs/FORMATS.md and docs/DEFINITIONS.md alone: a second opinion on each verdict over sums."""
+"""A plain judge of plans with a bound, written from docs/FORMATS.md and docs/DEFINITIONS.md alone: a second opinion on each verdict over sums
+and over states."""
 from typing import NamedTuple, Optional
 
 from models import SharedSystem, rows
+
+
+# So many marks of states are looked at at most, one for each task of each.
+MOST_MARKS = 2**27
+
+# All states of no more tasks than this are looked at here.
+FEW = 16
 
 
 class Blocker(NamedTuple):
@@ -12,13 +20,14 @@ class Blocker(NamedTuple):
 
 
 class BoundedPlan(NamedTuple):
-    """An order, its peak, a bound, and evidence: `need` and a task, or `first` or `last`, a base and blockers."""
+    """An order, its peak, a bound, and evidence: `need` and a task, `states` and how many, or `first` or `last`, a base and blockers."""
 
     order: list[int]
     peak: int
     bound: int
     word: str
-    task: int
+    # the task, or how many states
+    number: int
     base: list[tuple[int, int]]
     blockers: list[Blocker]
 
@@ -51,8 +60,8 @@ def bounded_plan_of(text: bytes) -> BoundedPlan:
 def text_of(plan: BoundedPlan) -> bytes:
     """The file of version 3 that has this plan."""
     lines = ["plan 3", f"order {len(plan.order)}", *map(str, plan.order), f"peak {plan.peak}", f"bound {plan.bound}"]
-    if plan.word == "need":
-        lines.append(f"need {plan.task}")
+    if plan.word in ("need", "states"):
+        lines.append(f"{plan.word} {plan.number}")
     else:
         lines += [f"{plan.word} {len(plan.blockers)}", f"base {len(plan.base)}", *(f"{place} {amount}" for place, amount in plan.base)]
         for blocker in plan.blockers:
@@ -82,20 +91,25 @@ class Judge:
                     work.append(reader)
         return found
 
-    def verdict(self, plan: BoundedPlan) -> str:
-        """What `check` has to print."""
+    def verdicts(self, plan: BoundedPlan) -> list[str]:
+        """What `check` may print: one text, but where two things are to be said against states."""
         if fault := self.system.fault(plan.order):
-            return fault
+            return [fault]
         peak = self.system.peak(plan.order)
         if peak != plan.peak:
-            return f"no peak {peak} {plan.peak}\n"
-        if objection := self.objection(plan):
-            return f"no {objection}\n"
-        return f"yes {peak} least\n" if plan.bound == peak else f"yes {peak} above {plan.bound}\n"
+            return [f"no peak {peak} {plan.peak}\n"]
+        if objections := self.objections(plan):
+            return [f"no {objection}\n" for objection in objections]
+        return [f"yes {peak} least\n" if plan.bound == peak else f"yes {peak} above {plan.bound}\n"]
 
-    def objection(self, plan: BoundedPlan) -> Optional[str]:
-        if plan.word == "need":
-            return self.objection_to_need(plan)
+    def objections(self, plan: BoundedPlan) -> list[str]:
+        """Those of which one is to be told; none where the evidence shows the bound."""
+        if plan.word == "states":
+            return self.objections_to_states(plan)
+        found = self.objection_to_need(plan) if plan.word == "need" else self.objection_to_set(plan)
+        return [found] if found else []
+
+    def objection_to_set(self, plan: BoundedPlan) -> Optional[str]:
         if not plan.blockers:
             return "set empty"
         if not self.are_amounts(plan.base):
@@ -115,10 +129,43 @@ class Judge:
         return None
 
     def objection_to_need(self, plan: BoundedPlan) -> Optional[str]:
-        if plan.task > self.system.count:
+        if plan.number > self.system.count:
             return "need task"
-        memory = self.system.own_need(plan.task) if plan.task else self.system.memory(0)
+        memory = self.system.own_need(plan.number) if plan.number else self.system.memory(0)
         return "need low" if memory < plan.bound else None
+
+    def objections_to_states(self, plan: BoundedPlan) -> list[str]:
+        if plan.number * self.system.count > MOST_MARKS:
+            return ["states room"]
+        states = self.states_below(plan.bound, plan.number)
+        many = len(states) > plan.number
+        is_open = many and self.system.count > FEW
+        return ["states order"] * (0 in states or is_open) + ["states many"] * many
+
+    def states_below(self, bound: int, most: int) -> set[int]:
+        """The states that are looked at, each as a number with a bit for each task that is done; of a large system no more than these."""
+        end = 2**self.system.count - 1
+        states = {end} if self.system.memory(end) < bound else set()
+        work = list(states)
+        while work and (self.system.count <= FEW or len(states) <= most):
+            for before in self.states_before(work.pop(), bound):
+                if before not in states:
+                    states.add(before)
+                    work.append(before)
+        return states
+
+    def states_before(self, state: int, bound: int) -> list[int]:
+        """Those before a task that is taken as the last one: the first that may wait, or each that can be last."""
+        found = []
+        for task in range(self.system.count):
+            before = state & ~(1 << task)
+            followed = any(state >> later & 1 for later in self.after[task])
+            if before == state or followed or self.system.memory(before) + self.system.needs[task] >= bound:
+                continue
+            if self.system.memory(before) <= self.system.memory(state):
+                return [before]
+            found.append(before)
+        return found
 
     def are_amounts(self, amounts: list[tuple[int, int]]) -> bool:
         places = [place for place, _ in amounts]

@@ -360,9 +360,9 @@ def read_bounded_plan(text: bytes) -> int:
 
 def read_evidence(page: Page) -> None:
     page.go_on()
-    page.test(len(page.tokens) == 2 and page.tokens[0] in (b"need", b"first", b"last", b"claims"), "section")
+    page.test(len(page.tokens) == 2 and page.tokens[0] in (b"need", b"states", b"first", b"last", b"claims"), "section")
     word, stated = page.tokens[0], page.number_at(1)
-    if word == b"need":
+    if word in (b"need", b"states"):
         page.test(stated < 2**32, "number")
         return
     page.limit(stated <= (MOST_POSITIONS if word == b"claims" else MOST_TASKS), "positions" if word == b"claims" else "tasks")

@@ -322,7 +322,7 @@ class Judge:
             yield "this is no bound of the grammar"
             return
         bound, lines = int(found[1]), [line.split() for line in [*found[2].splitlines(), "end"]]
-        if said := EvidenceJudge(system).objection(BoundedPlan([], 0, bound, *evidence_of(lines))):
+        if said := EvidenceJudge(system).objections(BoundedPlan([], 0, bound, *evidence_of(lines))):
             yield f"the evidence is objected to: {said}"
         needs = [system.memory(0), *map(system.own_need, range(1, system.count + 1))]
         if bound < max(needs) or (system.count <= FEW and bound > min(map(system.peak, system.traversals()))):
@@ -332,7 +332,8 @@ class Judge:
         if self.is_check_of_graph():
             plan = bounded_plan_of(self.file("plan"))
             if plan.word != "claims":
-                yield from self.expect(EvidenceJudge(shared_system_of_graph(self.file("graph"))).verdict(plan))
+                verdicts = EvidenceJudge(shared_system_of_graph(self.file("graph"))).verdicts(plan)
+                yield from self.expect(self.text if self.text in verdicts else verdicts[0])
             return
         plan, system = plan_of(self.file("plan")), system_of(self.bench, self.options)
         yield from self.expect(objection(system, term_of(self.bench, self.options), plan) or f"yes {plan.peak}\n")

@@ -32,6 +32,7 @@ module _ (tasks : List GivenTask) (items : List GivenSharedItem) (readers start 
     peak_is = sym is.accepted.peak;
     below_none = below;
     least_or_not = least_or_not given plan is.least_or_not;
+    plain = is.plain;
     no_worse = worse;
   }
 

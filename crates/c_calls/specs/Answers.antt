@@ -23,6 +23,7 @@ use Rattle.postorder_best.specs.Postorder.{IsTreePostorder}
 use Rattle.postorder_best.specs.BestPostorder.{IsBestPostorder}
 use Rattle.spill_plan.specs.SpillPlans.{IsLeastSpill}
 use Rattle.bound_check.specs.Objections.{IsWithoutTerm}
+use Rattle.graph_plan.specs.Planned.{HasPlainBound}
 use Rattle.least_peak.specs.Best.{IsBestTraversal}
 use Rattle.least_peak.specs.Problem.{IsTermOf}
 use Rattle.least_peak.specs.declared.problem.Origin.TheVariants as origins
@@ -71,8 +72,9 @@ pub record IsLeastFound (system : SharedTaskSystem) (peak bound : ℕ) : Type 0 
   pub least : IsLeastShared system peak
 
 -- tasks, items and readers that are a system; an order that is a traversal of it, with this peak; and a bound, which no traversal has a
--- peak below. The peak is least, and the bound is the peak, or no series-parallel term tells the orders of the system; and the peak is at
--- most that of the order at the start, where that has a place
+-- peak below, and which is at least what is there at the start and what each task reads and needs. The peak is least, and the bound is the
+-- peak, or the system is refused a series-parallel term that tells its orders: it has none, or one of too many arcs; and the peak is at most
+-- that of the order at the start, where that has a place
 pub record IsSharedPlanned (tasks : List GivenTask) (items : List GivenSharedItem) (readers start order : List ℕ) (peak bound : ℕ) : Type 0 where
   pub system : IsSharedSystem (shared_system_given tasks items readers)
   pub traversal : IsSharedTraversal (shared_system_given tasks items readers) order
@@ -81,6 +83,7 @@ pub record IsSharedPlanned (tasks : List GivenTask) (items : List GivenSharedIte
       → bound ≤ shared_peak_of (shared_system_given tasks items readers) other
   pub least_or_not : IsLeastFound (shared_system_given tasks items readers) peak bound
       ⊎ IsWithoutTerm (shared_system_given tasks items readers)
+  pub plain : HasPlainBound (shared_system_given tasks items readers) bound
   pub no_worse : start ≢ [] → peak ≤ shared_peak_of (shared_system_given tasks items readers) start
 
 -- ---- plans with claims

@@ -62,9 +62,9 @@ fn plan_of(
 }
 
 /// An order of tasks that hand data items to each other, each to any number of readers; its peak; and a bound that no order has a peak
-/// below. Least, and the bound is the peak, where a series-parallel term tells the orders of the tasks; elsewhere the best order and the
-/// best bound that are found with the effort, which is counted in steps. From an order of the caller's, where `start` has a place, the
-/// plan is never worse than that.
+/// below. Least, and the bound is the peak, where a series-parallel term of not too many arcs tells the orders of the tasks; elsewhere the
+/// best order and the best bound that are found with the effort, which is counted in steps. The bound is never less than what is there at
+/// the start, or what a task reads and needs. From an order of the caller's, where `start` has a place, the plan is never worse than that.
 pub fn plan_shared(
     alloc: Global,
     tasks: &[GivenTask],
@@ -77,8 +77,8 @@ pub fn plan_shared(
     bound: &mut u64,
     fault: &mut Fault,
 ) -> u32
-    // 0: the order is a traversal of the system of these tasks, items and readers, with this peak; none has one below the bound, and this
-    // one's is no higher than that of the start
+    // 0: the order is a traversal of the system of these tasks, items and readers, with this peak; none has one below the bound, which is no
+    // less than what any task reads and needs; and this one's is no higher than that of the start
     ensures planned { result ≡ 0 → IsSharedPlanned tasks.now items.now readers.now start.now order.new peak.new bound.new }
     // else the room is refused, or the tasks, items and readers, or the start, or memory is wanting
     ensures refused { result ≢ 0 → IsRefusedFor

@@ -10,6 +10,8 @@ use Rattle.peak_bounds.specs.declared.evidence.BlockerTest.{BlockerTest}
 use Rattle.peak_bounds.specs.declared.evidence.BlockerTest.TheVariants as tests
 use Rattle.peak_bounds.specs.declared.evidence.Objection.{Objection}
 use Rattle.peak_bounds.specs.declared.evidence.Objection.TheVariants as objections
+use Rattle.state_search.specs.declared.judging.StatesObjection.{StatesObjection}
+use Rattle.state_search.specs.declared.judging.StatesObjection.TheVariants as states
 use Rattle.bounded_plans.specs.BoundedPlan.{BoundedPlanValue}
 use Rattle.bound_check.specs.declared.objection.BoundObjection.{BoundObjection}
 use Rattle.bound_check.specs.declared.objection.BoundObjection.TheVariants as against
@@ -36,11 +38,19 @@ evidence_line objections.Empty = codes "no" ∷ codes "set" ∷ codes "empty" �
 evidence_line objections.Base = codes "no" ∷ codes "set" ∷ codes "base" ∷ []
 evidence_line (objections.Blocker test place) = codes "no" ∷ codes "blocker" ∷ decimal place ∷ test_word test ∷ []
 
--- `no order PLACE KIND`, `no peak REPLAYED PRINTED`, what is said of sums, `no term`, `no root LAST` or `no claim POSITION SHAPE`
+-- `no states room`, `no states order` or `no states many`
+abbrev pub states_line : StatesObjection → List (List ℕ)
+states_line states.Room = codes "no" ∷ codes "states" ∷ codes "room" ∷ []
+states_line states.Order = codes "no" ∷ codes "states" ∷ codes "order" ∷ []
+states_line states.Many = codes "no" ∷ codes "states" ∷ codes "many" ∷ []
+
+-- `no order PLACE KIND`, `no peak REPLAYED PRINTED`, what is said of sums or of states, `no term`, `no root LAST` or
+-- `no claim POSITION SHAPE`
 abbrev pub against_line : BoundObjection → List (List ℕ)
 against_line (against.Order fault) = codes "no" ∷ codes "order" ∷ decimal fault.place ∷ order_word fault.kind ∷ []
 against_line (against.Peak replayed printed) = codes "no" ∷ codes "peak" ∷ decimal replayed ∷ decimal printed ∷ []
 against_line (against.Sums objection) = evidence_line objection
+against_line (against.States objection) = states_line objection
 against_line against.NoTerm = codes "no" ∷ codes "term" ∷ []
 against_line (against.Root last) = codes "no" ∷ codes "root" ∷ decimal last ∷ []
 against_line (against.Claim position shape) = codes "no" ∷ codes "claim" ∷ decimal position ∷ shape_word shape ∷ []

@@ -34,6 +34,7 @@ use Rattle.peak_bounds.specs.declared.evidence.BlockerTest.TheVariants as tests
 use Rattle.peak_bounds.specs.declared.evidence.Evidence.TheVariants.{Start, Need}
 use Rattle.peak_bounds.specs.declared.evidence.Objection.TheVariants as objections_to_sums
 use Rattle.bound_check.specs.declared.objection.BoundObjection.TheVariants as against
+use Rattle.state_search.specs.declared.judging.StatesObjection.TheVariants as objections_to_states
 use Rattle.bound_check.specs.declared.verdict.BoundVerdict.TheVariants as verdicts
 use Rattle.reports.specs.Bound.{bound_answer}
 use Rattle.reports.specs.CheckGraph.{bound_verdict_answer}
@@ -71,9 +72,11 @@ pub bound_verdict_lines :
     map bound_verdict_answer
     (verdicts.Least 11 ∷ verdicts.Above 15 10
     ∷ verdicts.No (against.Sums (objections_to_sums.Blocker tests.Level 2))
+    ∷ verdicts.No (against.States objections_to_states.Many)
     ∷ verdicts.No against.NoTerm
     ∷ [])
-    ≡ done (codes "yes 11 least\n") ∷ done (codes "yes 15 above 10\n") ∷ no (codes "no blocker 2 level\n") ∷ no (codes "no term\n") ∷ []
+    ≡ done (codes "yes 11 least\n") ∷ done (codes "yes 15 above 10\n") ∷ no (codes "no blocker 2 level\n") ∷ no (codes "no states many\n")
+    ∷ no (codes "no term\n") ∷ []
 unfolding digits
 bound_verdict_lines = refl
 

@@ -7,7 +7,7 @@ ghost use Rattle.reports.specs.Reported.{IsReported};
 ghost use Rattle.judging.specs.Pages.{answer_of};
 ghost use Rattle.requests.specs.Request.{AreWorkers, check_graph};
 ghost use Rattle.bound_check.specs.declared.verdict.BoundVerdict.TheVariants.{No};
-ghost use Rattle.bound_check.specs.declared.objection.BoundObjection.TheVariants.{Sums};
+ghost use Rattle.bound_check.specs.declared.objection.BoundObjection.TheVariants.{Sums, States};
 
 use bound_check::{BoundObjection, BoundVerdict, check_bounded};
 use judging::{
@@ -17,6 +17,7 @@ use mp_outside::{Files, Gate};
 use mp_text::Token::{Number, Word};
 use peak_bounds::{BlockerTest, Objection};
 use requests::GraphCheck;
+use state_search::StatesObjection;
 use std::alloc::{AllocError, Global};
 use std::thread::Threads;
 
@@ -52,6 +53,18 @@ fn evidence_page(alloc: Global, objection: Objection) -> Result<Page, AllocError
     }
 }
 
+// The line of what is said against states.
+fn states_page(alloc: Global, objection: StatesObjection) -> Result<Page, AllocError>
+    ensures { IfOk result (λ page. answer_of page ≡ bound_verdict_answer (No (States objection))) }
+{
+    let (no, states, kind) = (Word("no"), Word("states"), PageKind::No);
+    match objection {
+        StatesObjection::Room => line_page(alloc, kind, &[no, states, Word("room")]),
+        StatesObjection::Order => line_page(alloc, kind, &[no, states, Word("order")]),
+        StatesObjection::Many => line_page(alloc, kind, &[no, states, Word("many")]),
+    }
+}
+
 // The line of an objection.
 fn objection_page(alloc: Global, objection: BoundObjection) -> Result<Page, AllocError>
     ensures { IfOk result (λ page. answer_of page ≡ bound_verdict_answer (No objection)) }
@@ -64,6 +77,7 @@ fn objection_page(alloc: Global, objection: BoundObjection) -> Result<Page, Allo
             line_page(alloc, kind, &words)
         }
         BoundObjection::Sums(objection) => evidence_page(alloc, objection),
+        BoundObjection::States(objection) => states_page(alloc, objection),
         BoundObjection::NoTerm => line_page(alloc, kind, &[no, Word("term")]),
         BoundObjection::Root { last } => {
             let last = Number(u64::from(last));
