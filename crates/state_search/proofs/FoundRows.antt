@@ -1,5 +1,5 @@
 -- States that are looked up among those of a set.
-use Rattle.std.proofs.Common.{◌≡◌, ℕ, zero, suc, ◌<◌, Bool, true, false, cond, ◌||◌, List, [], ◌∷◌, ◌++◌, length, map, refl, sym, ap, ◌∙◌, arith, inl, inr}
+use Rattle.std.proofs.Common.{◌≡◌, zero, suc, Bool, true, false, cond, ◌||◌, List, [], ◌∷◌, ◌++◌, map, refl, sym, ap, ◌∙◌, arith, inl, inr}
 use Rattle.std.specs.List.{list_any}
 use Rattle.std.specs.Bool.{Decides}
 use Rattle.std.specs.Cmp.{booleans_Decides}
@@ -7,9 +7,7 @@ use Rattle.std.specs.Cmp.Lexicographic.{pointwise, pointwise_decides}
 use Rattle.std.specs.Bool.{beq}
 use Rattle.std.proofs.lemmas.List.{map-append}
 use Rattle.std.proofs.lemmas.Bool.{or_cases, cases_Bool}
-use Rattle.state_search.specs.States.{state_at}
-use Rattle.state_search.specs.Runs.{IsKept}
-use Rattle.state_search.specs.Kept.{IsNew}
+use Rattle.state_search.specs.Kept.{IsKept, IsNew}
 
 decides : (xs ys : List Bool) → Decides (pointwise beq xs ys) (xs ≡ ys)
 decides xs ys = pointwise_decides booleans_Decides xs ys

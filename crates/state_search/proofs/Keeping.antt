@@ -1,23 +1,19 @@
--- One more state is kept; states that are kept are reached below the bound.
-use Rattle.std.proofs.Common.{◌≡◌, ◌≢◌, ℕ, zero, suc, ◌+◌, ◌≤◌, ◌<◌, Bool, true, false, ◌||◌, eqb, eq-eqb, List, [], ◌∷◌, ◌++◌, ◌⊎◌, inl, inr}
-use Rattle.std.proofs.Common.{length, get_or, reverse, refl, sym, ap, subst, ◌∙◌, arith}
-use Rattle.std.specs.Prelude.{All}
-use Rattle.std.proofs.lemmas.List.{get_or_append_left, length-append, length-replicate, reverse-append}
+-- One more state is kept; states that are kept are looked at.
+use Rattle.std.proofs.Common.{◌≡◌, ◌≢◌, ℕ, zero, suc, ◌+◌, ◌≤◌, ◌<◌, Bool, true, false, ◌||◌, eqb, eq-eqb, List, [], ◌∷◌, ◌++◌, inl, inr}
+use Rattle.std.proofs.Common.{length, refl, sym, ap, subst, ◌∙◌, arith}
+use Rattle.std.proofs.lemmas.List.{get_or_append_left, length-append}
 use Rattle.std.proofs.lemmas.List.Elements.{All-from_get_or}
-use Rattle.std.proofs.lemmas.Bool.{cases_eq, cases_lt, or_cases, or_left, eqb-true}
+use Rattle.std.proofs.lemmas.Bool.{cases_lt, or_cases, or_left, eqb-true}
 use Rattle.std.proofs.Math.Seq.{get_or-append_seam}
 use Rattle.mp_system.specs.Memory.{stands_in}
 use Rattle.shared_systems.specs.Shared.{SharedTaskSystem}
-use Rattle.shared_systems.proofs.Steps.{stands_push, stands_more}
+use Rattle.shared_systems.proofs.Steps.{stands_push}
 use Rattle.state_search.specs.declared.states.Link.{Link}
-use Rattle.state_search.specs.States.{none_done, with_done, state_at, IsStepBelow, IsReachedBelow, start, step, HasManyStates}
-use Rattle.state_search.specs.Runs.{IsLow, IsKept, Runs}
-use Rattle.state_search.specs.Kept.{KeptStates, link_at, IsNew, IsReachedBy, AreReached, Extends}
-use Rattle.state_search.proofs.TaskMarks.{done_length}
-use Rattle.state_search.proofs.Runs.{runs_cons}
+use Rattle.state_search.specs.States.{without, state_at, IsStepBack, IsLookedAt, end, back, HasManyStates}
+use Rattle.state_search.specs.Kept.{KeptStates, link_at, IsKept, IsNew, IsBefore, AreLookedAt, Extends}
 
 abbrev pub no_link : Link
-no_link = record { before = 0; task = 0 }
+no_link = record { next = 0; task = 0 }
 
 module _ (rows more : List (List Bool)) (marks : List Bool) (is : more ≡ rows ++ marks ∷ []) where
   pub long : length more ≡ length rows + 1
@@ -30,22 +26,21 @@ module _ (rows more : List (List Bool)) (marks : List Bool) (is : more ≡ rows 
   there i here = ap (state_at more) here ∙ ap (λ (l : List (List Bool)). state_at l (length rows)) is ∙ get_or-append_seam rows marks [] []
 
   module _ (system : SharedTaskSystem) (bound : ℕ) where
-    carried : (i : ℕ) (link : Link) (row : List Bool) → i ≤ length rows → IsReachedBy system bound rows i link row
-        → IsReachedBy system bound more i link row
+    carried : (i : ℕ) (link : Link) (row : List Bool) → i ≤ length rows → IsBefore system bound rows i link row
+        → IsBefore system bound more i link row
     carried i link row le by =
-        let e = sym (before_it link.before (omega (arith, by.earlier))) in
+        let e = sym (before_it link.next (omega (arith, by.earlier))) in
         record {
           earlier = by.earlier;
-          low = subst (IsLow system bound) e by.low;
-          step = subst (λ (m : List Bool). IsStepBelow system bound m link.task) e by.step;
-          row_is = by.row_is ∙ ap (λ (m : List Bool). with_done m link.task) e;
+          step = subst (λ (m : List Bool). IsStepBack system bound m link.task) e by.step;
+          row_is = by.row_is ∙ ap (λ (m : List Bool). without m link.task) e;
         }
 
 -- ---- a state that is kept
 
 module _ (system : SharedTaskSystem) (bound : ℕ) (old new : KeptStates) (link : Link) (marks : List Bool)
     (rows_are : new.rows ≡ old.rows ++ marks ∷ []) (links_are : new.links ≡ old.links ++ link ∷ [])
-    (was : AreReached system bound old) (by : IsReachedBy system bound old.rows (length old.rows) link marks) (fresh : IsNew old.rows marks) where
+    (was : AreLookedAt system bound old) (by : IsBefore system bound old.rows (length old.rows) link marks) (fresh : IsNew old.rows marks) where
   longer : length new.rows ≡ length old.rows + 1
   longer = long old.rows new.rows marks rows_are
 
@@ -57,17 +52,17 @@ module _ (system : SharedTaskSystem) (bound : ℕ) (old new : KeptStates) (link 
       let at : i ≡ length old.links = here ∙ sym was.links in
       ap (link_at new.links) at ∙ ap (λ (l : List Link). link_at l (length old.links)) links_are ∙ get_or-append_seam old.links link [] no_link
 
-  reached : (i : ℕ) → 0 < i → i < length new.rows → IsReachedBy system bound new.rows i (link_at new.links i) (state_at new.rows i)
-  reached i some lt = elim (cases_lt i (length old.rows)) [
+  before : (i : ℕ) → 0 < i → i < length new.rows → IsBefore system bound new.rows i (link_at new.links i) (state_at new.rows i)
+  before i some lt = elim (cases_lt i (length old.rows)) [
     | inl earlier ↦
-        subst (λ (l : Link). IsReachedBy system bound new.rows i l (state_at new.rows i)) (sym (link_before i earlier))
-        (subst (λ (m : List Bool). IsReachedBy system bound new.rows i (link_at old.links i) m) (sym (before_it old.rows new.rows marks rows_are i earlier))
-        (carried old.rows new.rows marks rows_are system bound i (link_at old.links i) (state_at old.rows i) (omega arith) (was.reached i some earlier)))
+        subst (λ (l : Link). IsBefore system bound new.rows i l (state_at new.rows i)) (sym (link_before i earlier))
+        (subst (λ (m : List Bool). IsBefore system bound new.rows i (link_at old.links i) m) (sym (before_it old.rows new.rows marks rows_are i earlier))
+        (carried old.rows new.rows marks rows_are system bound i (link_at old.links i) (state_at old.rows i) (omega arith) (was.before i some earlier)))
     | inr last ↦ (
         let here : i ≡ length old.rows = omega (arith, last, lt, longer) in
-        subst (λ (l : Link). IsReachedBy system bound new.rows i l (state_at new.rows i)) (sym (link_there i here))
-        (subst (λ (m : List Bool). IsReachedBy system bound new.rows i link m) (sym (there old.rows new.rows marks rows_are i here))
-        (subst (λ (k : ℕ). IsReachedBy system bound new.rows k link marks) (sym here)
+        subst (λ (l : Link). IsBefore system bound new.rows i l (state_at new.rows i)) (sym (link_there i here))
+        (subst (λ (m : List Bool). IsBefore system bound new.rows i link m) (sym (there old.rows new.rows marks rows_are i here))
+        (subst (λ (k : ℕ). IsBefore system bound new.rows k link marks) (sym here)
         (carried old.rows new.rows marks rows_are system bound (length old.rows) link marks (omega arith) by))))
   ]
 
@@ -81,19 +76,16 @@ module _ (system : SharedTaskSystem) (bound : ℕ) (old new : KeptStates) (link 
             fresh i (omega (arith, lt, here)) (sym first ∙ same ∙ there old.rows new.rows marks rows_are j here))
       ]
 
-  pub reached_more : AreReached system bound new
-  reached_more = record {
-    some = omega (arith, longer);
+  pub looked_more : AreLookedAt system bound new
+  looked_more = record {
     links = omega (arith, longer, ap (λ (l : List Link). length l) links_are, length-append old.links (link ∷ []), was.links);
-    start = before_it old.rows new.rows marks rows_are 0 was.some ∙ was.start;
-    reached = reached;
+    first = λ some. before_it old.rows new.rows marks rows_are 0 (omega (arith, by.earlier)) ∙ was.first (omega (arith, by.earlier));
+    low = λ some. was.low (omega (arith, by.earlier));
+    before = before;
     apart = apart;
   }
 
 -- ---- what waits
-
-eqb_same : (v : ℕ) → eqb v v ≡ true
-eqb_same v = eq-eqb v v refl
 
 pub extends_same : (rows : List (List Bool)) (waiting : List ℕ) → Extends rows waiting rows waiting
 extends_same rows waiting = record {
@@ -152,45 +144,24 @@ kept_on rows waiting more later marks extends kept = record {
   is = extends.same kept.place kept.inside ∙ kept.is;
 }
 
--- ---- the states that are kept are reached
+-- ---- the states that are kept are looked at
 
-module _ (system : SharedTaskSystem) (bound : ℕ) (states : KeptStates) (are : AreReached system bound states) where
-  reaches : (n i : ℕ) → i < n → i < length states.rows → IsReachedBelow system bound (state_at states.rows i)
-  reaches zero i lt inside = absurd (omega arith)
-  reaches (suc n) zero lt inside = subst (IsReachedBelow system bound) (sym are.start) start
-  reaches (suc n) (suc i) lt inside =
-      let by = are.reached (suc i) (omega arith) inside in
-      let before = reaches n (link_at states.links (suc i)).before (omega (arith, by.earlier, lt)) (omega (arith, by.earlier, inside)) in
-      subst (IsReachedBelow system bound) (sym by.row_is) (step before by.step)
+module _ (system : SharedTaskSystem) (bound : ℕ) (states : KeptStates) (are : AreLookedAt system bound states) where
+  looked : (n i : ℕ) → i < n → i < length states.rows → IsLookedAt system bound (state_at states.rows i)
+  looked zero i lt inside = absurd (omega arith)
+  looked (suc n) zero lt inside = subst (IsLookedAt system bound) (sym (are.first inside)) (end (are.low inside))
+  looked (suc n) (suc i) lt inside =
+      let by = are.before (suc i) (omega arith) inside in
+      let next = looked n (link_at states.links (suc i)).next (omega (arith, by.earlier, lt)) (omega (arith, by.earlier, inside)) in
+      subst (IsLookedAt system bound) (sym by.row_is) (back next by.step)
 
-  row_lengths : (n i : ℕ) → i < n → i < length states.rows → length (state_at states.rows i) ≡ length system.tasks
-  row_lengths zero i lt inside = absurd (omega arith)
-  row_lengths (suc n) zero lt inside = ap (λ (m : List Bool). length m) are.start ∙ length-replicate (length system.tasks) false
-  row_lengths (suc n) (suc i) lt inside =
-      let by = are.reached (suc i) (omega arith) inside in
-      let link = link_at states.links (suc i) in
-      ap (λ (m : List Bool). length m) by.row_is ∙ done_length (state_at states.rows link.before) link.task
-      ∙ row_lengths n link.before (omega (arith, by.earlier, lt)) (omega (arith, by.earlier, inside))
-
-  -- a mark for each task
-  pub row_length : (i : ℕ) → i < length states.rows → length (state_at states.rows i) ≡ length system.tasks
-  row_length i inside = row_lengths (i + 1) i (omega arith) inside
+  pub row_looked : (i : ℕ) → i < length states.rows → IsLookedAt system bound (state_at states.rows i)
+  row_looked i inside = looked (i + 1) i (omega arith) inside
 
   pub many_states : (most : ℕ) → most < length states.rows → HasManyStates system bound most
   many_states most many = record {
     states = states.rows;
     many = many;
     apart = are.apart;
-    reached = All-from_get_or (IsReachedBelow system bound) states.rows [] (λ i lt. reaches (i + 1) i (omega arith) lt);
+    each = All-from_get_or (IsLookedAt system bound) states.rows [] (λ i lt. row_looked i lt);
   }
-
-  -- what runs from a state runs from the one before it, after the task between them
-  pub runs_back : (i : ℕ) (link : Link) → 0 < i → i < length states.rows → link ≡ link_at states.links i
-      → (tasks more : List ℕ) → more ≡ tasks ++ link.task ∷ [] → Runs system bound (state_at states.rows i) (reverse tasks)
-      → Runs system bound (state_at states.rows link.before) (reverse more)
-  runs_back i link some inside is tasks more more_is runs =
-      let by = subst (λ (l : Link). IsReachedBy system bound states.rows i l (state_at states.rows i)) (sym is) (are.reached i some inside) in
-      let turned : reverse more ≡ link.task ∷ reverse tasks = ap (λ (l : List ℕ). reverse l) more_is ∙ reverse-append tasks (link.task ∷ []) in
-      subst (λ (l : List ℕ). Runs system bound (state_at states.rows link.before) l) (sym turned)
-      (runs_cons system bound (state_at states.rows link.before) link.task (reverse tasks) by.low by.step
-      (subst (λ (m : List Bool). Runs system bound m (reverse tasks)) by.row_is runs))

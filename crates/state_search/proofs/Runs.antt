@@ -1,24 +1,24 @@
 -- Orders below a bound as steps from a state to the next.
-use Rattle.std.proofs.Common.{◌≡◌, ℕ, ◌+◌, ◌-◌, ◌≤◌, ◌<◌, Bool, true, false, cond, ◌&&◌, ◌||◌, eqb, eq-eqb, List, [], ◌∷◌, ◌++◌}
-use Rattle.std.proofs.Common.{length, replicate, append_assoc, max, refl, sym, ap, subst, ◌∙◌, arith, inl, inr}
+use Rattle.std.proofs.Common.{◌≡◌, ℕ, ◌<◌, Bool, true, false, cond, ◌||◌, eqb, eq-eqb, List, [], ◌∷◌, ◌++◌}
+use Rattle.std.proofs.Common.{length, append_assoc, refl, sym, ap, subst, ◌∙◌, arith, inl, inr}
 use Rattle.std.proofs.Math.Path.{fun_ext}
 use Rattle.std.specs.Prelude.{All}
 use Rattle.std.proofs.lemmas.List.{append-nil, length-replicate}
 use Rattle.std.proofs.lemmas.List.Elements.{All-head, All-tail, All-cons, All-nil}
-use Rattle.std.proofs.lemmas.Bool.{cases_eq, ne_eqb, eqb-true, cases_Bool}
+use Rattle.std.proofs.lemmas.Bool.{cases_eq, ne_eqb}
 use Rattle.mp_system.specs.Memory.{stands_in}
 use Rattle.mp_system.specs.Replay.{is_marked}
 use Rattle.shared_systems.specs.Shared.{SharedTaskSystem, HasTask}
-use Rattle.shared_systems.specs.SharedMemory.{shared_memory, shared_running, shared_peak_from, shared_peak_of, has_inputs}
+use Rattle.shared_systems.specs.SharedMemory.{shared_memory, shared_peak_from, shared_peak_of, has_inputs}
 use Rattle.shared_systems.specs.SharedTraversal.{IsSharedTraversal}
 use Rattle.shared_systems.proofs.Collectors.{count_of, count_of-cons, count_of-append, one_if, none_if, stands_counted}
 use Rattle.shared_systems.proofs.Steps.{stands_push}
-use Rattle.state_search.specs.States.{none_done, with_done, IsStepBelow}
-use Rattle.state_search.specs.Runs.{AreAllDone, IsLow, Runs}
+use Rattle.state_search.specs.States.{none_done, memory_in}
+use Rattle.state_search.specs.Runs.{with_done, IsStepBelow, AreAllDone, Runs}
 use Rattle.state_search.proofs.TaskMarks.{none_marked, done_adds, done_length}
 
 module _ (system : SharedTaskSystem) (bound : ℕ) where
-  pub runs_low : (marks : List Bool) (rest : List ℕ) → Runs system bound marks rest → IsLow system bound marks
+  pub runs_low : (marks : List Bool) (rest : List ℕ) → Runs system bound marks rest → memory_in system marks < bound
   unfolding Runs
   runs_low marks [] runs = runs.0
   runs_low marks (v ∷ rest) runs = runs.0
@@ -35,11 +35,11 @@ module _ (system : SharedTaskSystem) (bound : ℕ) where
   unfolding Runs
   runs_rest marks v rest runs = runs.2
 
-  pub runs_nil : (marks : List Bool) → IsLow system bound marks → AreAllDone system marks → Runs system bound marks []
+  pub runs_nil : (marks : List Bool) → memory_in system marks < bound → AreAllDone system marks → Runs system bound marks []
   unfolding Runs
   runs_nil marks low done = (low, done)
 
-  pub runs_cons : (marks : List Bool) (v : ℕ) (rest : List ℕ) → IsLow system bound marks → IsStepBelow system bound marks v
+  pub runs_cons : (marks : List Bool) (v : ℕ) (rest : List ℕ) → memory_in system marks < bound → IsStepBelow system bound marks v
       → Runs system bound (with_done marks v) rest → Runs system bound marks (v ∷ rest)
   unfolding Runs
   runs_cons marks v rest low step later = (low, step, later)

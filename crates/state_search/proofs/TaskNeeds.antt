@@ -5,7 +5,6 @@ use Rattle.std.proofs.lemmas.List.Sums.{get_or-le-sum_by}
 use Rattle.std.proofs.lemmas.Bool.{cases_lt}
 use Rattle.std.proofs.Math.Seq.{get_or-append_seam}
 use Rattle.limits.specs.Limits.{most_total}
-use Rattle.mp_system.specs.declared.system.Task.{Task}
 use Rattle.mp_system.specs.System.{extra_size}
 use Rattle.shared_systems.specs.Shared.{SharedTaskSystem, HasTask, shared_task_at, shared_size_where, is_made_by, shared_need_of}
 use Rattle.shared_systems.specs.Bounds.{IsSharedSystem}

@@ -1,39 +1,43 @@
-//! States are explored until an order is found, all are explored, or there are too many.
+//! States are looked at until the start is found, all are looked at, or there are too many.
 
 ghost use Rattle.std.specs.Prelude.{◌≡◌, ℕ, ◌<◌, ◌≤◌, List, IfOk};
 ghost use Rattle.shared_systems.specs.SharedMemory.{shared_peak_of};
 ghost use Rattle.shared_systems.specs.SharedTraversal.{IsSharedTraversal};
 ghost use Rattle.state_search.specs.States.{HasManyStates};
+ghost use Rattle.state_search.specs.Shown.{AreNoStart};
 ghost use Rattle.state_search.specs.Answers.{IfOrder, IfClosed, IfMany};
 
 use crate::NoMemory;
-use crate::needs::needs_of;
-use crate::reading::order_to;
-use crate::search::{Search, expand, started};
+use crate::needs::amounts_of;
+use crate::reading::order_from;
+use crate::search::{expand, started};
 use shared_systems::SharedSystem;
 use std::alloc::Global;
 
-/// What exploring the states below a bound came to.
+/// What looking at the states below a bound came to.
 #[derive(Drop)]
 pub enum Explored {
     /// An order of all tasks with a peak below the bound.
     Order(Vec<u32>),
-    /// No order has a peak below the bound.
-    Closed,
-    /// More states than were to be kept are reached below the bound.
+    /// No order has a peak below the bound; so many states were looked at.
+    Closed(u32),
+    /// More states than were to be kept are looked at.
     Many,
 }
 
-/// Explores the states of a system that an order can be in while its memory stays below a bound. A state is which tasks are done; from a state
-/// a task can run that is not done, for which all is made that it reads, and with which the memory is below the bound while it runs.
+/// Looks for an order with a peak below a bound, from the end. A state is which tasks are done. The first that is looked at is that in which
+/// all are, if its memory is below the bound. Before a state one of its tasks was run last: one that is done, whose outputs no task that is
+/// done reads, and with which the memory was below the bound while it ran. Where before one of these there was no more memory than after it,
+/// nothing is gained by running it earlier: the first of them is taken as the last. Where there is none, each that can be the last is taken.
 ///
 /// - `Order`: a traversal with a peak below the bound.
-/// - `Closed`: all those states were seen, and in none all tasks are done; so no traversal has a peak below the bound.
-/// - `Many`: more than `most` states are reached below the bound. Nothing is said of orders.
+/// - `Closed`: all those states were seen, and in none of them no task is done; so no traversal has a peak below the bound. The number is how
+///   many they were: 0 where the memory at the end is not below the bound.
+/// - `Many`: more than `most` states are looked at. Nothing is said of orders.
 ///
-/// For each state that is seen, at most `most` and those that one of them leads to, the time is linear in the tasks, items and readers, and in
-/// the tasks for each step from it; a byte for each task is kept, and a few words. There may be as many states as sets of tasks: this is for
-/// small systems, and for low bounds.
+/// For each state that is seen, at most `most` and one more, the time is linear in the tasks, items and readers, and in the tasks for each
+/// that can be the last; a byte for each task is kept, and a few words. There may be as many states as sets of tasks: this is for low bounds,
+/// or systems in which most tasks may wait.
 pub fn explore(
     alloc: Global,
     system: &SharedSystem,
@@ -41,21 +45,24 @@ pub fn explore(
     most: u32,
 ) -> Result<Explored, NoMemory>
     ensures order { IfOk result (IfOrder (λ order. IsSharedTraversal system.now order × (shared_peak_of system.now order < bound))) }
-    ensures closed { IfOk result (IfClosed ((order : List ℕ) → IsSharedTraversal system.now order → bound ≤ shared_peak_of system.now order)) }
+    ensures closed { IfOk result (IfClosed (λ seen. AreNoStart system.now bound seen × (seen ≤ most))) }
+    ensures none { IfOk result (IfClosed (λ seen. (order : List ℕ) → IsSharedTraversal system.now order → bound ≤ shared_peak_of system.now order)) }
     ensures many { IfOk result (IfMany (HasManyStates system.now bound most)) }
 {
-    let needs = needs_of(alloc, system)?;
-    let mut search = started(alloc, system.tasks().len())?;
+    system.keeps();
+    let amounts = amounts_of(alloc, system)?;
+    let mut search = started(alloc, system, bound)?;
     for round in 0..u64::from(most) + 1 {
-        if search.states.len() > most as usize {
+        let seen = search.states.len();
+        if seen > most as usize {
             return Ok(Explored::Many);
         }
         let Some(place) = search.waiting.pop() else {
-            return Ok(Explored::Closed);
+            return Ok(Explored::Closed(seen as u32));
         };
-        let ends = expand(alloc, system, &needs, bound, &mut search, place)?;
-        if ends {
-            let order = order_to(alloc, &search.states, place)?;
+        let is_start = expand(alloc, system, &amounts, bound, most, &mut search, place)?;
+        if is_start {
+            let order = order_from(alloc, &search.states, place)?;
             return Ok(Explored::Order(order));
         }
     }

@@ -1,18 +1,28 @@
-//! Exact search of small systems: the states that an order can be in while its memory stays below a bound.
+//! Exact search of shared systems: whether an order has its peak below a bound.
 //!
-//! A state is told by which tasks are done. Where the states that are reached below a bound are few enough to be kept, either one of them
-//! has all tasks done, which tells an order with a peak below the bound, or no order has one. The definitions stand in specs/States.antt.
+//! A state is told by which tasks are done. States are looked at from the end: from that in which all tasks are done to those before a task
+//! that can be the last one. Where one of these may be put off, since there was no more memory before it than after it, it alone is taken as
+//! the last; no order is lost by this, since an order with a peak below the bound in which it runs earlier is one still when it runs there.
+//! Where few enough states are looked at to be kept, either the start is one of them, which tells an order with a peak below the bound, or no
+//! order has one.
+//!
+//! The definitions stand in specs/: `States` and `Shown`; the law in [`laws`]. [`explore`] searches, and [`judge_states`] says whether a number
+//! of states is enough.
 #![tactic(auto)]
 
 mod explored;
+mod judging;
+mod last;
+pub mod laws;
 mod marks;
 mod needs;
 mod reading;
 mod search;
 mod states;
-mod steps;
+mod view;
 
 pub use explored::{Explored, explore};
+pub use judging::{MOST_MARKS, StatesObjection, judge_states};
 use std::alloc::AllocError;
 
 /// Want of memory: an allocation was refused.

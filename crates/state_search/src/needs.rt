@@ -1,14 +1,22 @@
-//! What each task needs beside the items that are there when it starts.
+//! What each task makes, and what it needs beside the items that are there when it starts.
 
 ghost use Rattle.std.specs.Prelude.{◌≡◌, ℕ, ◌+◌, ◌-◌, ◌<◌, ◌^◌, IfOk, length, slice_index, if◌then◌else◌};
 ghost use Rattle.std.specs.Option.{ForSome};
 ghost use Rattle.mp_system.specs.System.{is_named};
 ghost use Rattle.shared_systems.specs.Shared.{HasTask, is_made_by, shared_need_of, shared_size_where};
+ghost use Rattle.state_search.specs.Views.{AreAmounts};
 
 use crate::NoMemory;
 use mp_system::Task;
 use shared_systems::SharedSystem;
 use std::alloc::Global;
+
+/// What each task makes, and nothing at the place 0; and what it needs, where that of the first one stands first.
+#[derive(Drop)]
+pub struct Amounts {
+    pub outputs: Vec<u64>,
+    pub needs: Vec<u64>,
+}
 
 // Adds a size at a task, if there is one.
 fn add_size(sums: &mut [u64], task: Option<u32>, size: u64)
@@ -53,11 +61,11 @@ fn needs_with(alloc: Global, system: &SharedSystem, outputs: &[u64]) -> Result<V
     Ok(needs)
 }
 
-/// What each task needs; that of the first one stands first.
-pub fn needs_of(alloc: Global, system: &SharedSystem) -> Result<Vec<u64>, NoMemory>
-    ensures len { IfOk result (λ needs. length needs.items ≡ length system.now.tasks) }
-    ensures needs { IfOk result (λ needs. (v : ℕ) → HasTask system.now v → slice_index needs.items (v - 1) ≡ shared_need_of system.now v) }
+/// What each task makes and needs.
+pub fn amounts_of(alloc: Global, system: &SharedSystem) -> Result<Amounts, NoMemory>
+    ensures { IfOk result (λ amounts. AreAmounts system.now amounts) }
 {
     let outputs = outputs_of(alloc, system)?;
-    needs_with(alloc, system, &outputs)
+    let needs = needs_with(alloc, system, &outputs)?;
+    Ok(Amounts { outputs, needs })
 }

@@ -1,19 +1,18 @@
-//! States that are kept, no two the same, each with how it was reached.
+//! States that are kept, no two the same, each with what led on from it.
 
 ghost use Rattle.std.specs.Prelude.{◌≡◌, ◌<◌, true, false, [], ◌∷◌, ◌++◌, OnOk, length};
 ghost use Rattle.state_search.specs.States.{state_at};
-ghost use Rattle.state_search.specs.Runs.{IsKept};
-ghost use Rattle.state_search.specs.Kept.{link_at, IsNew};
+ghost use Rattle.state_search.specs.Kept.{link_at, IsKept, IsNew};
 
 use crate::NoMemory;
 use indexmap::IndexSet;
 use std::alloc::Global;
 use std::marker::Model;
 
-/// How a state was reached: the place of the state before, and the task that was run there.
+/// What led on from a state: a task, and the place of the state after it.
 #[derive(Clone, Copy)]
 pub struct Link {
-    pub before: usize,
+    pub next: usize,
     pub task: u32,
 }
 
@@ -59,7 +58,7 @@ impl States {
         &self.seen.as_slice()[i]
     }
 
-    /// How the state at a place was reached.
+    /// What led on from the state at a place.
     pub fn link(&self, i: usize) -> Link
         requires { i < length self.now.links }
         ensures { result ≡ link_at self.now.links i }

@@ -1,8 +1,9 @@
-//! Small systems explored at their least peak and one above it; the least peaks are worked by hand.
+//! Small systems explored at their least peak and one above it; the least peaks, and how many states are looked at, are worked by hand.
 
 use mp_system::GivenTask;
 use shared_systems::{GivenSharedItem, SharedSystem, shared_system_of_arrays};
-use state_search::{Explored, explore};
+use state_search::laws::states_law;
+use state_search::{Explored, MOST_MARKS, StatesObjection, explore, judge_states};
 use std::alloc::Global;
 
 fn task(extra: u64, share: u64) -> GivenTask {
@@ -59,21 +60,36 @@ fn pairs(alloc: Global) -> Option<SharedSystem> {
     system_of(alloc, &[none; 6], &items, &[4, 5, 6])
 }
 
+// The pairs, and a task that needs 100.
+fn pairs_and_giant(alloc: Global) -> Option<SharedSystem> {
+    let none = task(0, 0);
+    let tasks = [none, none, none, none, none, none, task(100, 0)];
+    let items = [item(10, 1, 1), item(10, 2, 1), item(10, 3, 1)];
+    system_of(alloc, &tasks, &items, &[4, 5, 6])
+}
+
 // No task, and an item of 7 that stays: the peak of the one order is 7.
 fn idle(alloc: Global) -> Option<SharedSystem> {
     system_of(alloc, &[], &[item(7, 0, 0)], &[])
 }
 
-// What a search came to: the peak of the order that was found, 0 where there is none, and 1 where there are too many states.
-fn found(alloc: Global, system: Option<SharedSystem>, bound: u64, most: u32) -> Option<u64> {
+// What a search came to, with the peak of the order that was found.
+#[derive(Clone, Copy, Debug, PartialEq, Eq)]
+enum Found {
+    Peak(u64),
+    Closed(u32),
+    Many,
+}
+
+fn searched(alloc: Global, system: Option<SharedSystem>, bound: u64, most: u32) -> Option<Found> {
     let system = system?;
     match explore(alloc, &system, bound, most) {
         Ok(Explored::Order(order)) => match system.peak(alloc, &order) {
-            Ok(peak) => Some(peak),
+            Ok(peak) => Some(Found::Peak(peak)),
             Err(_) => None,
         },
-        Ok(Explored::Closed) => Some(0),
-        Ok(Explored::Many) => Some(1),
+        Ok(Explored::Closed(seen)) => Some(Found::Closed(seen)),
+        Ok(Explored::Many) => Some(Found::Many),
         Err(_) => None,
     }
 }
@@ -81,25 +97,76 @@ fn found(alloc: Global, system: Option<SharedSystem>, bound: u64, most: u32) -> 
 #[test]
 fn one_above_the_least_peak_an_order_is_found(rt: HostRuntime) {
     let alloc = rt.alloc();
-    assert_eq!(rt; found(alloc, tree(alloc), 12, 1000), Some(11));
-    assert_eq!(rt; found(alloc, diamond(alloc), 11, 1000), Some(10));
-    assert_eq!(rt; found(alloc, pairs(alloc), 11, 1000), Some(10));
-    assert_eq!(rt; found(alloc, idle(alloc), 8, 1000), Some(7));
+    assert_eq!(rt; searched(alloc, tree(alloc), 12, 1000), Some(Found::Peak(11)));
+    assert_eq!(rt; searched(alloc, diamond(alloc), 11, 1000), Some(Found::Peak(10)));
+    assert_eq!(rt; searched(alloc, pairs(alloc), 11, 1000), Some(Found::Peak(10)));
+    assert_eq!(rt; searched(alloc, idle(alloc), 8, 1000), Some(Found::Peak(7)));
 }
 
+// In the tree and in the diamond only the root can be last, and before it both of its suppliers need too much. In the pairs none of the
+// last three tasks fits, each of which has 10 when it starts. The idle item is too much at the end already.
 #[test]
 fn at_the_least_peak_all_is_explored(rt: HostRuntime) {
     let alloc = rt.alloc();
-    assert_eq!(rt; found(alloc, tree(alloc), 11, 1000), Some(0));
-    assert_eq!(rt; found(alloc, diamond(alloc), 10, 1000), Some(0));
-    assert_eq!(rt; found(alloc, pairs(alloc), 10, 1000), Some(0));
-    assert_eq!(rt; found(alloc, idle(alloc), 7, 1000), Some(0));
+    assert_eq!(rt; searched(alloc, tree(alloc), 11, 1000), Some(Found::Closed(2)));
+    assert_eq!(rt; searched(alloc, diamond(alloc), 10, 1000), Some(Found::Closed(2)));
+    assert_eq!(rt; searched(alloc, pairs(alloc), 10, 1000), Some(Found::Closed(1)));
+    assert_eq!(rt; searched(alloc, idle(alloc), 7, 1000), Some(Found::Closed(0)));
 }
 
-// Each of the three tasks that make 10 can run first, which gives three states beside the one in which none is done.
+// The giant never fits, so it stays done. Of the pairs any may be taken back, one whole pair after the other: 8 states with whole pairs; and
+// from each of those, half of each pair that is left: 12 more. The first task of a pair may wait as soon as the second is taken back, so no
+// two pairs are open.
 #[test]
-fn more_states_than_may_be_kept_are_reached(rt: HostRuntime) {
+fn tasks_that_may_wait_keep_the_states_few(rt: HostRuntime) {
     let alloc = rt.alloc();
-    assert_eq!(rt; found(alloc, pairs(alloc), 31, 2), Some(1));
-    assert_eq!(rt; found(alloc, pairs(alloc), 31, 0), Some(1));
+    assert_eq!(rt; searched(alloc, pairs_and_giant(alloc), 11, 20), Some(Found::Closed(20)));
+    assert_eq!(rt; searched(alloc, pairs_and_giant(alloc), 100, 20), Some(Found::Closed(20)));
+    assert_eq!(rt; searched(alloc, pairs_and_giant(alloc), 100, 19), Some(Found::Many));
+}
+
+// Before the end each of the three tasks that take 10 up can be the last, which gives three states beside the end. The diamond has one state
+// for each of its 4 tasks and the end on the way to the start; of those the start is the last.
+#[test]
+fn more_states_than_may_be_kept_are_looked_at(rt: HostRuntime) {
+    let alloc = rt.alloc();
+    assert_eq!(rt; searched(alloc, pairs(alloc), 31, 2), Some(Found::Many));
+    assert_eq!(rt; searched(alloc, pairs(alloc), 31, 0), Some(Found::Many));
+    assert_eq!(rt; searched(alloc, diamond(alloc), 11, 5), Some(Found::Peak(10)));
+    assert_eq!(rt; searched(alloc, diamond(alloc), 11, 4), Some(Found::Many));
+}
+
+// What the judge says: `Some(None)` where all is shown.
+fn judged(
+    alloc: Global,
+    system: Option<SharedSystem>,
+    bound: u64,
+    most: u32,
+) -> Option<Option<StatesObjection>> {
+    let system = system?;
+    match judge_states(alloc, &system, bound, most) {
+        Ok(objection) => Some(objection),
+        Err(_) => None,
+    }
+}
+
+#[test]
+fn as_many_states_as_are_looked_at_show_the_bound(rt: HostRuntime) {
+    let alloc = rt.alloc();
+    states_law();
+    assert_eq!(rt; judged(alloc, tree(alloc), 11, 2), Some(None));
+    assert_eq!(rt; judged(alloc, tree(alloc), 11, 1), Some(Some(StatesObjection::Many)));
+    assert_eq!(rt; judged(alloc, tree(alloc), 12, 1000), Some(Some(StatesObjection::Order)));
+    assert_eq!(rt; judged(alloc, pairs_and_giant(alloc), 100, 20), Some(None));
+    assert_eq!(rt; judged(alloc, idle(alloc), 7, 4_294_967_295), Some(None));
+}
+
+// 2^27 marks are 22,369,621 states of 6 tasks, and 2 marks more.
+#[test]
+fn the_room_is_looked_at_first(rt: HostRuntime) {
+    let alloc = rt.alloc();
+    assert_eq!(rt; MOST_MARKS, 134_217_728);
+    assert_eq!(rt; judged(alloc, pairs(alloc), 10, 22_369_621), Some(None));
+    assert_eq!(rt; judged(alloc, pairs(alloc), 10, 22_369_622), Some(Some(StatesObjection::Room)));
+    assert_eq!(rt; judged(alloc, pairs(alloc), 11, 22_369_622), Some(Some(StatesObjection::Room)));
 }

@@ -1,4 +1,4 @@
-use Rattle.std.proofs.Common.{ℕ, ◌<◌, ◌+◌, ◌-◌, List, length, get_or, ap, ◌∙◌, arith}
+use Rattle.std.proofs.Common.{◌<◌, ◌+◌, ◌-◌, List, length, get_or, ap, ◌∙◌, arith}
 use Rattle.mp_system.specs.declared.system.Task.{Task}
 use Rattle.shared_systems.specs.Shared.{shared_need_of}
 use Rattle.shared_systems.proofs.PeakSteps.{no_task}

@@ -1,6 +1,5 @@
-use Rattle.std.proofs.Common.{◌≡◌, Bool, List, sym, ap, subst, ◌∙◌}
-use Rattle.state_search.specs.Runs.{IsKept}
-use Rattle.state_search.specs.Kept.{KeptStates, IsNew}
+use Rattle.std.proofs.Common.{sym, subst, ◌∙◌}
+use Rattle.state_search.specs.Kept.{KeptStates, IsKept, IsNew}
 use Rattle.state_search.proofs.FoundRows.{found, not_found}
 use Rattle.state_search.proofs.states.States.has.Goals as goal
 

@@ -1,4 +1,4 @@
-use Rattle.std.proofs.Common.{◌≡◌, Bool, List, ◌++◌, ◌∷◌, [], map, cond, sym, ap, subst, ◌∙◌}
+use Rattle.std.proofs.Common.{◌++◌, ◌∷◌, [], sym, ap, subst, ◌∙◌}
 use Rattle.state_search.specs.Kept.{KeptStates, IsNew}
 use Rattle.state_search.proofs.FoundRows.{pushed_rows}
 use Rattle.state_search.proofs.states.States.push.Goals as goal

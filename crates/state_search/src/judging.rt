@@ -1,0 +1,52 @@
+//! The judge of what looking at states shows.
+
+ghost use Rattle.std.specs.Prelude.{◌≡◌, ◌↔◌, ℕ, true, IfOk, MatchOption};
+ghost use Rattle.state_search.specs.Shown.{HaveRoom, IsShownByStates, IsStatesObjection};
+
+use crate::NoMemory;
+use crate::explored::{Explored, explore};
+use shared_systems::SharedSystem;
+use std::alloc::Global;
+
+/// The most marks that may be looked at, one for each task of each state.
+pub const MOST_MARKS: u64 = 1 << 27;
+
+/// Why looking at so many states does not show that no order has a peak below a bound.
+#[derive(Clone, Copy, Debug, PartialEq, Eq)]
+pub enum StatesObjection {
+    /// So many states would have more than `MOST_MARKS` marks; none was looked at.
+    Room,
+    /// An order has a peak below the bound.
+    Order,
+    /// More states than that are looked at.
+    Many,
+}
+
+// Whether so many states have at most `MOST_MARKS` marks.
+fn have_room(system: &SharedSystem, most: u32) -> bool
+    ensures { (result ≡ true) ↔ HaveRoom system.now most }
+{
+    system.keeps();
+    u64::from(most) * system.tasks().len() as u64 <= MOST_MARKS
+}
+
+/// Whether no more states than `most` are looked at for a bound, and the start is none of them, which shows that no order of the system has a
+/// peak below the bound; if not, why. What is refused first is said: `Room`, for more than `MOST_MARKS` marks, without a look at any state. The
+/// time is that of [`explore`].
+pub fn judge_states(
+    alloc: Global,
+    system: &SharedSystem,
+    bound: u64,
+    most: u32,
+) -> Result<Option<StatesObjection>, NoMemory>
+    ensures { IfOk result (λ found. MatchOption found (IsShownByStates system.now bound most) (IsStatesObjection system.now bound most)) }
+{
+    if !have_room(system, most) {
+        return Ok(Some(StatesObjection::Room));
+    }
+    match explore(alloc, system, bound, most)? {
+        Explored::Order(_) => Ok(Some(StatesObjection::Order)),
+        Explored::Closed(_) => Ok(None),
+        Explored::Many => Ok(Some(StatesObjection::Many)),
+    }
+}
