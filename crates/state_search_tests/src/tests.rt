@@ -97,9 +97,18 @@ fn searched(alloc: Global, system: Option<SharedSystem>, bound: u64, most: u32) 
 #[test]
 fn one_above_the_least_peak_an_order_is_found(rt: HostRuntime) {
     let alloc = rt.alloc();
-    assert_eq!(rt; searched(alloc, tree(alloc), 12, 1000), Some(Found::Peak(11)));
-    assert_eq!(rt; searched(alloc, diamond(alloc), 11, 1000), Some(Found::Peak(10)));
-    assert_eq!(rt; searched(alloc, pairs(alloc), 11, 1000), Some(Found::Peak(10)));
+    assert_eq!(rt;
+        searched(alloc, tree(alloc), 12, 1000),
+        Some(Found::Peak(11))
+    );
+    assert_eq!(rt;
+        searched(alloc, diamond(alloc), 11, 1000),
+        Some(Found::Peak(10))
+    );
+    assert_eq!(rt;
+        searched(alloc, pairs(alloc), 11, 1000),
+        Some(Found::Peak(10))
+    );
     assert_eq!(rt; searched(alloc, idle(alloc), 8, 1000), Some(Found::Peak(7)));
 }
 
@@ -108,10 +117,22 @@ fn one_above_the_least_peak_an_order_is_found(rt: HostRuntime) {
 #[test]
 fn at_the_least_peak_all_is_explored(rt: HostRuntime) {
     let alloc = rt.alloc();
-    assert_eq!(rt; searched(alloc, tree(alloc), 11, 1000), Some(Found::Closed(2)));
-    assert_eq!(rt; searched(alloc, diamond(alloc), 10, 1000), Some(Found::Closed(2)));
-    assert_eq!(rt; searched(alloc, pairs(alloc), 10, 1000), Some(Found::Closed(1)));
-    assert_eq!(rt; searched(alloc, idle(alloc), 7, 1000), Some(Found::Closed(0)));
+    assert_eq!(rt;
+        searched(alloc, tree(alloc), 11, 1000),
+        Some(Found::Closed(2))
+    );
+    assert_eq!(rt;
+        searched(alloc, diamond(alloc), 10, 1000),
+        Some(Found::Closed(2))
+    );
+    assert_eq!(rt;
+        searched(alloc, pairs(alloc), 10, 1000),
+        Some(Found::Closed(1))
+    );
+    assert_eq!(rt;
+        searched(alloc, idle(alloc), 7, 1000),
+        Some(Found::Closed(0))
+    );
 }
 
 // The giant never fits, so it stays done. Of the pairs any may be taken back, one whole pair after the other: 8 states with whole pairs; and
@@ -120,9 +141,18 @@ fn at_the_least_peak_all_is_explored(rt: HostRuntime) {
 #[test]
 fn tasks_that_may_wait_keep_the_states_few(rt: HostRuntime) {
     let alloc = rt.alloc();
-    assert_eq!(rt; searched(alloc, pairs_and_giant(alloc), 11, 20), Some(Found::Closed(20)));
-    assert_eq!(rt; searched(alloc, pairs_and_giant(alloc), 100, 20), Some(Found::Closed(20)));
-    assert_eq!(rt; searched(alloc, pairs_and_giant(alloc), 100, 19), Some(Found::Many));
+    assert_eq!(rt;
+        searched(alloc, pairs_and_giant(alloc), 11, 20),
+        Some(Found::Closed(20))
+    );
+    assert_eq!(rt;
+        searched(alloc, pairs_and_giant(alloc), 100, 20),
+        Some(Found::Closed(20))
+    );
+    assert_eq!(rt;
+        searched(alloc, pairs_and_giant(alloc), 100, 19),
+        Some(Found::Many)
+    );
 }
 
 // Before the end each of the three tasks that take 10 up can be the last, which gives three states beside the end. The diamond has one state
@@ -132,7 +162,10 @@ fn more_states_than_may_be_kept_are_looked_at(rt: HostRuntime) {
     let alloc = rt.alloc();
     assert_eq!(rt; searched(alloc, pairs(alloc), 31, 2), Some(Found::Many));
     assert_eq!(rt; searched(alloc, pairs(alloc), 31, 0), Some(Found::Many));
-    assert_eq!(rt; searched(alloc, diamond(alloc), 11, 5), Some(Found::Peak(10)));
+    assert_eq!(rt;
+        searched(alloc, diamond(alloc), 11, 5),
+        Some(Found::Peak(10))
+    );
     assert_eq!(rt; searched(alloc, diamond(alloc), 11, 4), Some(Found::Many));
 }
 
@@ -155,8 +188,14 @@ fn as_many_states_as_are_looked_at_show_the_bound(rt: HostRuntime) {
     let alloc = rt.alloc();
     states_law();
     assert_eq!(rt; judged(alloc, tree(alloc), 11, 2), Some(None));
-    assert_eq!(rt; judged(alloc, tree(alloc), 11, 1), Some(Some(StatesObjection::Many)));
-    assert_eq!(rt; judged(alloc, tree(alloc), 12, 1000), Some(Some(StatesObjection::Order)));
+    assert_eq!(rt;
+        judged(alloc, tree(alloc), 11, 1),
+        Some(Some(StatesObjection::Many))
+    );
+    assert_eq!(rt;
+        judged(alloc, tree(alloc), 12, 1000),
+        Some(Some(StatesObjection::Order))
+    );
     assert_eq!(rt; judged(alloc, pairs_and_giant(alloc), 100, 20), Some(None));
     assert_eq!(rt; judged(alloc, idle(alloc), 7, 4_294_967_295), Some(None));
 }
@@ -167,6 +206,12 @@ fn the_room_is_looked_at_first(rt: HostRuntime) {
     let alloc = rt.alloc();
     assert_eq!(rt; MOST_MARKS, 134_217_728);
     assert_eq!(rt; judged(alloc, pairs(alloc), 10, 22_369_621), Some(None));
-    assert_eq!(rt; judged(alloc, pairs(alloc), 10, 22_369_622), Some(Some(StatesObjection::Room)));
-    assert_eq!(rt; judged(alloc, pairs(alloc), 11, 22_369_622), Some(Some(StatesObjection::Room)));
+    assert_eq!(rt;
+        judged(alloc, pairs(alloc), 10, 22_369_622),
+        Some(Some(StatesObjection::Room))
+    );
+    assert_eq!(rt;
+        judged(alloc, pairs(alloc), 11, 22_369_622),
+        Some(Some(StatesObjection::Room))
+    );
 }
