@@ -18,7 +18,8 @@ use Rattle.peak_bounds.specs.declared.evidence.Evidence.{Evidence}
 use Rattle.peak_bounds.specs.Evidence.{IsEvidence}
 use Rattle.bounded_plans.specs.BoundedPlan.{BoundedPlanValue}
 use Rattle.bounded_plans.specs.declared.evidence.BoundEvidence.{BoundEvidence}
-use Rattle.bounded_plans.specs.declared.evidence.BoundEvidence.TheVariants.{Sums, Claims}
+use Rattle.bounded_plans.specs.declared.evidence.BoundEvidence.TheVariants.{Sums, Claims, States}
+use Rattle.state_search.specs.Shown.{IsShownByStates}
 use Rattle.bound_check.specs.Shown.{ShowBound, IsShown}
 use Rattle.bound_check.specs.Accepted.{IsBoundAccepted}
 
@@ -29,7 +30,7 @@ sound_bound t c bound order sound reaches traversal =
     let above : c.bound <ℤ pos (peak_of (system_of_term t) order) = sound.no_traversal order traversal in
     omega (arith, ints, above, reaches)
 
--- what the laws of sums, of claims and of terms say
+-- what the laws of sums, of claims, of terms and of states say
 pub record Laws : Type 0 where
   pub sums : (system : SharedTaskSystem) (evidence : Evidence) (bound : ℕ) (order : List ℕ) → IsSharedSystem system
       → IsEvidence system evidence bound → IsSharedTraversal system order → bound ≤ shared_peak_of system order
@@ -39,6 +40,8 @@ pub record Laws : Type 0 where
       → IsSharedSystem system → IsSharedTerm system names t → IsSharedTraversal system order
       → (other : List ℕ) × IsTraversal (system_of_term t) other × (told (length system.tasks) names other ≡ order)
       × (peak_of (system_of_term t) other ≡ shared_peak_of system order)
+  pub states : (system : SharedTaskSystem) (bound most : ℕ) (order : List ℕ) → IsSharedSystem system
+      → IsShownByStates system bound most → IsSharedTraversal system order → bound ≤ shared_peak_of system order
 
 shown_bound : Laws → (system : SharedTaskSystem) (evidence : BoundEvidence) (bound : ℕ) (order : List ℕ) → IsSharedSystem system
     → IsShown system evidence bound → IsSharedTraversal system order → bound ≤ shared_peak_of system order
@@ -49,6 +52,7 @@ shown_bound laws system (Claims claims) bound order within shown traversal =
     let below : bound ≤ peak_of (system_of_term (term_of shown.0)) own.0 =
     laws.claims shown.0 claims bound own.0 term.terms shown.2 own.1 in
     omega (arith, below, own.3)
+shown_bound laws system (States most) bound order within shown traversal = laws.states system bound most order within shown traversal
 
 pub accepted_bound : Laws → (system : SharedTaskSystem) (plan : BoundedPlanValue) (order : List ℕ) → IsSharedSystem system
     → IsBoundAccepted system plan → IsSharedTraversal system order → plan.bound ≤ shared_peak_of system order

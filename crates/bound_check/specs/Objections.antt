@@ -14,7 +14,8 @@ use Rattle.shared_reduce.specs.declared.refusal.SharedReduceRefusal.TheVariants.
 use Rattle.peak_bounds.specs.Evidence.{IsObjection}
 use Rattle.bounded_plans.specs.BoundedPlan.{BoundedPlanValue}
 use Rattle.bounded_plans.specs.declared.evidence.BoundEvidence.{BoundEvidence}
-use Rattle.bounded_plans.specs.declared.evidence.BoundEvidence.TheVariants.{Sums, Claims}
+use Rattle.bounded_plans.specs.declared.evidence.BoundEvidence.TheVariants.{Sums, Claims, States}
+use Rattle.state_search.specs.Shown.{IsStatesObjection}
 use Rattle.bound_check.specs.Shown.{HasRootFor, AreTermOf}
 use Rattle.bound_check.specs.declared.objection.BoundObjection.{BoundObjection}
 use Rattle.bound_check.specs.declared.objection.BoundObjection.TheVariants as objections
@@ -45,6 +46,8 @@ IsEvidenceObjection system (Sums evidence) bound _ = ⊥
 IsEvidenceObjection system (Claims claims) bound objections.NoTerm = IsWithoutTerm system
 IsEvidenceObjection system (Claims claims) bound objection =
     (ps : List Position) × AreTermOf system ps × IsClaimObjection ps claims bound objection
+IsEvidenceObjection system (States most) bound (objections.States objection) = IsStatesObjection system bound most objection
+IsEvidenceObjection system (States most) bound _ = ⊥
 
 -- the first of these, where all before it passed: the order, the peak, and then the evidence
 abbrev pub IsBoundObjection : SharedTaskSystem → BoundedPlanValue → BoundObjection → Type 0

@@ -1,4 +1,5 @@
--- When evidence shows that no order of a system's tasks has a peak below a bound: by sums, or by claims on the positions of a term of it.
+-- When evidence shows that no order of a system's tasks has a peak below a bound: by sums, by claims on the positions of a term of it, or by
+-- looking at its states from the end.
 use Rattle.std.specs.Prelude.{◌≡◌, ℕ, pos, ◌≤ℤ◌, ◌+ℤ◌, length, List, Some}
 use Rattle.sp_terms.specs.declared.position.Position.{Position}
 use Rattle.sp_terms.specs.Values.{IsTerms, term_of}
@@ -10,7 +11,8 @@ use Rattle.shared_systems.specs.Shared.{SharedTaskSystem}
 use Rattle.shared_reduce.specs.SharedTerm.{IsSharedTerm}
 use Rattle.peak_bounds.specs.Evidence.{IsEvidence}
 use Rattle.bounded_plans.specs.declared.evidence.BoundEvidence.{BoundEvidence}
-use Rattle.bounded_plans.specs.declared.evidence.BoundEvidence.TheVariants.{Sums, Claims}
+use Rattle.bounded_plans.specs.declared.evidence.BoundEvidence.TheVariants.{Sums, Claims, States}
+use Rattle.state_search.specs.Shown.{IsShownByStates}
 
 -- a claim on the whole term, which stands at the last position, has a bound of at least this one less 1
 abbrev pub HasRootFor : List Position → List Claim → ℕ → Type 0
@@ -31,3 +33,4 @@ pub record AreTermOf (system : SharedTaskSystem) (ps : List Position) : Type 0 w
 abbrev pub IsShown : SharedTaskSystem → BoundEvidence → ℕ → Type 0
 IsShown system (Sums evidence) bound = IsEvidence system evidence bound
 IsShown system (Claims claims) bound = (ps : List Position) × AreTermOf system ps × ShowBound ps claims bound
+IsShown system (States most) bound = IsShownByStates system bound most

@@ -9,6 +9,7 @@ use crate::claims::judge_claims;
 use crate::laws::accepted_law;
 use crate::objection::BoundObjection;
 use crate::replayed::judge_order;
+use crate::states::judge_looking;
 use crate::sums::judge_sums;
 use crate::verdict::{BoundVerdict, verdict_of};
 use bounded_plans::{BoundEvidence, BoundedPlan};
@@ -40,14 +41,16 @@ fn judge_shown<R: Threads + Sync, G: Gate>(
         BoundEvidence::Claims(list) => {
             judge_claims(rt, alloc, system, list.claims(), bound, workers, gate)
         }
+        BoundEvidence::States(most) => judge_looking(alloc, system, *most, bound),
     }
 }
 
 /// Judges a plan with a bound for a system: least, where its peak is its bound; above, where its peak is above it; or the first objection,
 /// to the order, the peak, or the evidence. Claims are judged over the term that `reduce_shared` makes of the system. The claims, or the
 /// blockers of a set, are judged by up to 4,096 workers, each of which takes one chunk of them and calls the gate once, with the number of
-/// its chunk from 0. The verdict is the same for every number of workers and every gate. `NoMemory` says nothing of the plan. Linear in the
-/// claims; else as `reduce_shared` and `judge_evidence_by`.
+/// its chunk from 0; states are looked at by one worker, which calls no gate. The verdict is the same for every number of workers and every
+/// gate. `NoMemory` says nothing of the plan. Linear in the claims, and, for each state that is looked at, in the tasks, items and readers;
+/// else as `reduce_shared` and `judge_evidence_by`.
 pub fn check_bounded<R: Threads + Sync, G: Gate>(
     rt: &R,
     alloc: Global,

@@ -18,6 +18,7 @@ use claim_rules::laws::list_law;
 use peak_bounds::laws::evidence_law;
 use shared_reduce::laws::told_term_law;
 use sp_terms::laws::position_law;
+use state_search::laws::states_law;
 
 /// No order of a term has a peak below a bound that claims on its positions show.
 pub fn claims_law()
@@ -39,4 +40,5 @@ pub fn accepted_law()
     claims_law();
     told_term_law();
     evidence_law();
+    states_law();
 }

@@ -1,6 +1,7 @@
 use claim_check::Shape;
 use mp_system::OrderFault;
 use peak_bounds::Objection;
+use state_search::StatesObjection;
 
 /// What is objected to in a plan with a bound that is not accepted: the first of these that holds.
 #[derive(Clone, Copy, Debug, PartialEq, Eq)]
@@ -16,6 +17,8 @@ pub enum BoundObjection {
     },
     /// What is said against the sums.
     Sums(Objection),
+    /// What is said against looking at states.
+    States(StatesObjection),
     /// The evidence is claims, and `reduce_shared` makes no term of the system.
     NoTerm,
     /// The last position of the term has no claim with a bound of at least the plan's less 1.

@@ -10,6 +10,7 @@ use mp_outside::{Gate, NoGate};
 use mp_system::{OrderFault, OrderKind};
 use peak_bounds::{BlockerTest, Objection};
 use shared_graph_files::read_shared_graph;
+use state_search::StatesObjection;
 use std::alloc::Global;
 use std::process::Abort;
 use std::rt::HostRuntime;
@@ -135,6 +136,52 @@ fn claims_need_a_term(rt: HostRuntime) -> Result<(), Fail> {
     Ok(())
 }
 
+// Below 11 no more states of the five tasks are looked at than that in which all are done and that before task 5; below 10 only the first,
+// and below 0 none.
+const BY_STATES: &str =
+    "plan 3\norder 5\n1\n3\n2\n4\n5\npeak 11\nbound 11\nstates 2\nend\n";
+
+#[rattlefmt::skip]
+const LOOKED_AT: &[(&str, BoundVerdict)] = &[
+    (BY_STATES, BoundVerdict::Least(11)),
+    ("plan 3\norder 5\n1\n3\n2\n4\n5\npeak 11\nbound 11\nstates 26843545\nend\n", BoundVerdict::Least(11)),
+    ("plan 3\norder 5\n1\n2\n3\n4\n5\npeak 15\nbound 10\nstates 1\nend\n", BoundVerdict::Above { peak: 15, bound: 10 }),
+    ("plan 3\norder 5\n1\n3\n2\n4\n5\npeak 11\nbound 0\nstates 0\nend\n", BoundVerdict::Above { peak: 11, bound: 0 }),
+];
+
+#[test]
+fn states_show_a_bound(rt: HostRuntime) -> Result<(), Fail> {
+    check_plans(&rt, rt.alloc(), LOOKED_AT)
+}
+
+// Too many states for 2^27 marks, whatever the bound; a bound above the least peak, below which six states are looked at; and one state less
+// than it takes.
+#[rattlefmt::skip]
+const STATES: &[(&str, BoundVerdict)] = &[
+    ("plan 3\norder 5\n1\n3\n2\n4\n5\npeak 11\nbound 11\nstates 26843546\nend\n",
+        BoundVerdict::No(BoundObjection::States(StatesObjection::Room))),
+    ("plan 3\norder 5\n1\n3\n2\n4\n5\npeak 11\nbound 12\nstates 6\nend\n",
+        BoundVerdict::No(BoundObjection::States(StatesObjection::Order))),
+    ("plan 3\norder 5\n1\n3\n2\n4\n5\npeak 11\nbound 11\nstates 1\nend\n",
+        BoundVerdict::No(BoundObjection::States(StatesObjection::Many))),
+    ("plan 3\norder 5\n1\n3\n2\n4\n5\npeak 11\nbound 1\nstates 0\nend\n",
+        BoundVerdict::No(BoundObjection::States(StatesObjection::Many))),
+];
+
+#[test]
+fn states_are_objected_to(rt: HostRuntime) -> Result<(), Fail> {
+    check_plans(&rt, rt.alloc(), STATES)
+}
+
+// All are done, or all but task 3: before task 4 its inputs are 2.
+#[test]
+fn states_need_no_term(rt: HostRuntime) -> Result<(), Fail> {
+    let plan = "plan 3\norder 4\n1\n2\n3\n4\npeak 2\nbound 2\nstates 2\nend\n";
+    let said = verdict(&rt, rt.alloc(), CROSSING, plan, 1, &NoGate)?;
+    assert_eq!(rt; said, BoundVerdict::Least(2));
+    Ok(())
+}
+
 // Tasks 2, 3 and 4 read what task 1 makes, and task 4, which reads it last, what tasks 2 and 3 make.
 const FORK: &str =
     "graph 2\ntasks 4\n0 0 1\n1 0 1\n2 0 1\n2 0 1\nitems 3\n5 1 2 3 4\n1 2 4\n3 3 4\nend\n";
@@ -170,8 +217,8 @@ impl Gate for Counts {
     }
 }
 
-// Plans, workers, and the chunks that two blockers, and six claims, come to: of 2 and 1, and of 6, 3, 2, 2 and 1.
-const CHUNKS: [(&str, u32, u32); 7] = [
+// Plans, workers, and the chunks that two blockers, and six claims, come to: of 2 and 1, and of 6, 3, 2, 2 and 1. States are no chunks.
+const CHUNKS: [(&str, u32, u32); 8] = [
     (BY_SET, 1, 1),
     (BY_SET, 3, 2),
     (BY_CLAIMS, 1, 1),
@@ -179,6 +226,7 @@ const CHUNKS: [(&str, u32, u32); 7] = [
     (BY_CLAIMS, 3, 3),
     (BY_CLAIMS, 4, 3),
     (BY_CLAIMS, 4096, 6),
+    (BY_STATES, 3, 0),
 ];
 
 #[test]

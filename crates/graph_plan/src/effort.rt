@@ -1,4 +1,10 @@
 //! How many steps the searches take at most: the more tasks a graph has, the more. An effort is what the bound of about a thousand tasks may take.
+//! How many states are looked at: the more tasks, the fewer.
+
+ghost use Rattle.std.specs.Prelude.{◌*◌, ◌≤◌};
+ghost use Rattle.state_search.specs.Shown.{most_marks};
+
+use state_search::MOST_MARKS;
 
 // In thousandths of the effort: what the search for an order begins with, what each thousand tasks add, and the most.
 const ORDER: u64 = 500;
@@ -16,6 +22,11 @@ const MOST_FOR_BOUND: u64 = 5_000;
 
 // What the search for an order takes before the bound is looked for is such a part of all.
 const QUICK: u64 = 20;
+
+// Of the states that are looked at so many marks, one for each task of each, for so much effort.
+const MARKS: u64 = 1 << 24;
+
+const FOR_MARKS: u64 = 1_000_000_000;
 
 // So many thousandths of an effort.
 fn thousandths(effort: u64, first: u64, by_tasks: u64, most: u64, tasks: usize) -> u64 {
@@ -37,4 +48,13 @@ pub fn quick_effort(effort: u64, tasks: usize) -> u64 {
 /// tasks, up to 5 times it.
 pub fn bound_effort(effort: u64, tasks: usize) -> u64 {
     thousandths(effort, BOUND, BOUND_BY_TASKS, MOST_FOR_BOUND, tasks)
+}
+
+/// How many states may be looked at at a time: so many that they have 2^24 marks, one for each task of each, at an effort of 1,000,000,000, in
+/// proportion to the effort, and at most [`MOST_MARKS`].
+pub fn states_effort(effort: u64, tasks: usize) -> u32
+    ensures { result * tasks ≤ most_marks }
+{
+    let marks = (effort.saturating_mul(MARKS) / FOR_MARKS).min(MOST_MARKS);
+    (marks / (tasks as u64).max(1)) as u32
 }

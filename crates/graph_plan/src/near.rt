@@ -1,49 +1,35 @@
 //! The plan of a system that has no term: the best order that an effort finds, and the bound that it shows.
 
-ghost use Rattle.std.specs.Prelude.{◌≡◌, ◌≤◌, IfOk};
-ghost use Rattle.limits.specs.Limits.{most_total};
+ghost use Rattle.std.specs.Prelude.{◌≤◌, IfOk};
 ghost use Rattle.shared_systems.specs.SharedMemory.{shared_peak_of};
 ghost use Rattle.shared_systems.specs.SharedTraversal.{IsSharedTraversal};
 ghost use Rattle.bound_check.specs.Accepted.{IsBoundAccepted};
 ghost use Rattle.graph_plan.specs.Planned.{IsNoWorse, HasPlainBound};
+ghost use Rattle.graph_plan.specs.Drafts.{IsDraft};
 
 use crate::NoMemory;
-use crate::effort::{bound_effort, quick_effort, search_effort};
+use crate::draft::Draft;
+use crate::effort::{bound_effort, quick_effort, search_effort, states_effort};
+use crate::peaks::peak_of;
+use crate::states::look_at_states;
 use bound_search::{CertifiedBound, certify_bound_below};
 use bounded_plans::{BoundEvidence, BoundedPlan};
 use graph_orders::find_order;
-use mp_system::ReplayRefusal;
 use shared_systems::SharedSystem;
-use shared_systems::laws::{order_law, peak_limit_law};
-use std::alloc::{AllocError, Global};
+use shared_systems::laws::order_law;
+use std::alloc::Global;
 
-// The peak of a traversal, at most 2^60.
-fn peak_of(alloc: Global, system: &SharedSystem, order: &[u32]) -> Result<u64, NoMemory>
-    requires { IsSharedTraversal system.now order.now }
-    ensures peak { IfOk result (λ peak. peak ≡ shared_peak_of system.now order.now) }
-    ensures within { IfOk result (λ peak. peak ≤ most_total) }
-{
-    peak_limit_law();
-    system.keeps();
-    match system.peak(alloc, order) {
-        Ok(peak) => Ok(peak),
-        Err(ReplayRefusal::NoMemory) => Err(AllocError),
-        Err(ReplayRefusal::Order(_)) => unreachable!(),
-    }
-}
-
-/// The plan along the best order that is found from a first one. The bound is looked for below the peak of an order that is found soon, and
-/// the search for a better one ends where it meets the bound.
-pub fn plan_near(
+// The best order that is found from a first one, and a bound by sums. The bound is looked for below the peak of an order that is found soon,
+// and the search for a better one ends where it meets the bound.
+fn draft_by_sums(
     alloc: Global,
     system: &SharedSystem,
     start: &[u32],
     effort: u64,
-) -> Result<BoundedPlan, NoMemory>
+) -> Result<Draft, NoMemory>
     requires { IsSharedTraversal system.now start.now }
-    ensures accepted { IfOk result (IsBoundAccepted system.now) }
-    ensures plain { IfOk result (HasPlainBound system.now) }
-    ensures no_worse { IfOk result (IsNoWorse system.now start.now) }
+    ensures draft { IfOk result (IsDraft system.now) }
+    ensures no_worse { IfOk result (λ draft. draft.peak ≤ shared_peak_of system.now start.now) }
 {
     order_law();
     system.keeps();
@@ -58,5 +44,29 @@ pub fn plan_near(
     )?;
     let order = find_order(alloc, system, &quick, bound, search_effort(effort, tasks))?;
     let peak = peak_of(alloc, system, &order)?;
-    Ok(BoundedPlan::new(order, peak, bound, BoundEvidence::Sums(evidence)))
+    Ok(Draft {
+        order,
+        peak,
+        bound,
+        evidence: BoundEvidence::Sums(evidence),
+    })
+}
+
+/// The plan along the best order that is found from a first one, by sums and by looking at states. A bound by states is taken where it is
+/// higher than that by sums.
+pub fn plan_near(
+    alloc: Global,
+    system: &SharedSystem,
+    start: &[u32],
+    effort: u64,
+) -> Result<BoundedPlan, NoMemory>
+    requires { IsSharedTraversal system.now start.now }
+    ensures accepted { IfOk result (IsBoundAccepted system.now) }
+    ensures plain { IfOk result (HasPlainBound system.now) }
+    ensures no_worse { IfOk result (IsNoWorse system.now start.now) }
+{
+    let mut draft = draft_by_sums(alloc, system, start, effort)?;
+    let most = states_effort(effort, system.tasks().len());
+    look_at_states(alloc, system, &mut draft, most)?;
+    Ok(draft.into_plan())
 }

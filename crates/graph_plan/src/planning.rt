@@ -14,9 +14,10 @@ use shared_systems::{SharedSystem, first_order};
 use std::alloc::{AllocError, Global};
 
 /// A plan of the system whose order is no worse than the one that it begins with, which is a traversal. Where `reduce_shared` finds a term,
-/// the plan is least, by claims, whatever the effort; elsewhere the order is the best that is found with the effort, and the bound the best
-/// that is shown with as much, each counted in steps; the plan is least where they meet. `NoMemory` says nothing of the system. Near linear
-/// where there is a term, as `reduce_shared` and `Problem::plan` are.
+/// the plan is least, by claims, whatever the effort; elsewhere the order and the bound are the best that are found, and the plan is least where
+/// they meet. The search for the order and that for the bound each take so many steps as the effort and the number of tasks allow; then states
+/// are looked at, the more the smaller the graph, which finds a better order, or shows a higher bound. `NoMemory` says nothing of the system.
+/// Near linear where there is a term, as `reduce_shared` and `Problem::plan` are.
 pub fn plan_from(
     alloc: Global,
     system: &SharedSystem,

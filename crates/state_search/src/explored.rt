@@ -25,19 +25,21 @@ pub enum Explored {
     Many,
 }
 
-/// Looks for an order with a peak below a bound, from the end. A state is which tasks are done. The first that is looked at is that in which
-/// all are, if its memory is below the bound. Before a state one of its tasks was run last: one that is done, whose outputs no task that is
-/// done reads, and with which the memory was below the bound while it ran. Where before one of these there was no more memory than after it,
-/// nothing is gained by running it earlier: the first of them is taken as the last. Where there is none, each that can be the last is taken.
+/// Looks for an order with a peak below a bound, from its end. A state is told by which tasks are done.
+///
+/// The first state that is looked at is that in which all tasks are done, if its memory is below the bound. From each one the search goes back
+/// over the task that was run last: one that is done, whose outputs no task that is done reads, and with which the memory was below the bound
+/// while it ran. Where there was no more memory before such a task than after it, nothing is gained by running it earlier: the first of these
+/// alone is taken as the last. Where there is none, each that can be the last is.
 ///
 /// - `Order`: a traversal with a peak below the bound.
-/// - `Closed`: all those states were seen, and in none of them no task is done; so no traversal has a peak below the bound. The number is how
-///   many they were: 0 where the memory at the end is not below the bound.
+/// - `Closed`: all these states were looked at, and the start, in which no task is done, is none of them; so no traversal has a peak below the
+///   bound. The number is how many they are, at most `most`: 0 where the memory at the end is not below the bound.
 /// - `Many`: more than `most` states are looked at. Nothing is said of orders.
 ///
-/// For each state that is seen, at most `most` and one more, the time is linear in the tasks, items and readers, and in the tasks for each
-/// that can be the last; a byte for each task is kept, and a few words. There may be as many states as sets of tasks: this is for low bounds,
-/// or systems in which most tasks may wait.
+/// At most `most` states are kept, and one more. For each the time is linear in the tasks, items and readers, and in the tasks for each task
+/// that is taken as the last; a byte for each task is kept, and a few words. There may be as many states as sets of tasks: this is for low
+/// bounds, and for systems in which most tasks may wait.
 pub fn explore(
     alloc: Global,
     system: &SharedSystem,
@@ -46,6 +48,7 @@ pub fn explore(
 ) -> Result<Explored, NoMemory>
     ensures order { IfOk result (IfOrder (λ order. IsSharedTraversal system.now order × (shared_peak_of system.now order < bound))) }
     ensures closed { IfOk result (IfClosed (λ seen. AreNoStart system.now bound seen × (seen ≤ most))) }
+    ensures as_many { IfOk result (IfClosed (λ seen. (n : ℕ) → n < seen → HasManyStates system.now bound n)) }
     ensures none { IfOk result (IfClosed (λ seen. (order : List ℕ) → IsSharedTraversal system.now order → bound ≤ shared_peak_of system.now order)) }
     ensures many { IfOk result (IfMany (HasManyStates system.now bound most)) }
 {

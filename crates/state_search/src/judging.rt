@@ -30,9 +30,10 @@ fn have_room(system: &SharedSystem, most: u32) -> bool
     u64::from(most) * system.tasks().len() as u64 <= MOST_MARKS
 }
 
-/// Whether no more states than `most` are looked at for a bound, and the start is none of them, which shows that no order of the system has a
-/// peak below the bound; if not, why. What is refused first is said: `Room`, for more than `MOST_MARKS` marks, without a look at any state. The
-/// time is that of [`explore`].
+/// Whether looking at so many states shows that no order of a system has a peak below a bound: no more than `most` are looked at, and the start
+/// is none of them. If not, the first that holds of these: `Room`, where they would have more than `MOST_MARKS` marks, and none is looked at;
+/// `Order`, where an order with a peak below the bound was found; `Many`, where more than `most` are looked at. Time and memory are those of
+/// [`explore`](crate::explore).
 pub fn judge_states(
     alloc: Global,
     system: &SharedSystem,

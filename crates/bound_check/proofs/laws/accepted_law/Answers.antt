@@ -6,6 +6,7 @@ returns-clause-bound c = accepted_bound (record {
   sums = c.evidence_law.ensures.bound;
   claims = c.claims_law.ensures;
   back = c.told_term_law.ensures.back;
+  states = c.states_law.ensures;
 })
 
 pub returns-clause-least : goal.returns-clause-least

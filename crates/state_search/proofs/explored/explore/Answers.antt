@@ -22,6 +22,11 @@ returns-in_default-clause-closed c =
     (omega (arith, search.waiting.ok)) c.pop.ensures.cases c.in_default.not-Some) in
     (subst (λ (n : ℕ). AreNoStart system c.args.bound n) (sym c.len-seen.ensures) closed, omega (arith, c.if-seen-most.false))
 
+pub returns-in_default-clause-as_many : goal.returns-in_default-clause-as_many
+returns-in_default-clause-as_many c = λ n below.
+    many_states c.args.system.now c.args.bound c.loop-round.search.states c.loop-round.invariant.looked n
+    (omega (arith, below, c.len-seen.ensures))
+
 pub returns-in_default-clause-none : goal.returns-in_default-clause-none
 returns-in_default-clause-none c =
     let search = c.loop-round.search in
