@@ -23,7 +23,7 @@ use Rattle.postorder_best.specs.Postorder.{IsTreePostorder}
 use Rattle.postorder_best.specs.BestPostorder.{IsBestPostorder}
 use Rattle.spill_plan.specs.SpillPlans.{IsLeastSpill}
 use Rattle.bound_check.specs.Objections.{IsWithoutTerm}
-use Rattle.graph_plan.specs.Planned.{HasPlainBound}
+use Rattle.graph_plan.specs.Planned.{IsPlainBound}
 use Rattle.least_peak.specs.Best.{IsBestTraversal}
 use Rattle.least_peak.specs.Problem.{IsTermOf}
 use Rattle.least_peak.specs.declared.problem.Origin.TheVariants as origins
@@ -83,7 +83,7 @@ pub record IsSharedPlanned (tasks : List GivenTask) (items : List GivenSharedIte
       → bound ≤ shared_peak_of (shared_system_given tasks items readers) other
   pub least_or_not : IsLeastFound (shared_system_given tasks items readers) peak bound
       ⊎ IsWithoutTerm (shared_system_given tasks items readers)
-  pub plain : HasPlainBound (shared_system_given tasks items readers) bound
+  pub plain : IsPlainBound (shared_system_given tasks items readers) bound
   pub no_worse : start ≢ [] → peak ≤ shared_peak_of (shared_system_given tasks items readers) start
 
 -- ---- plans with claims

@@ -13,16 +13,16 @@ pub record IsLeastPlan (system : SharedTaskSystem) (plan : BoundedPlanValue) : T
   pub met : plan.bound ≡ plan.peak
   pub least : IsLeastShared system plan.peak
 
--- the bound is at least what is there at the start, and what each task reads and needs
-pub record HasPlainBound (system : SharedTaskSystem) (plan : BoundedPlanValue) : Type 0 where
-  pub start : memory_at_start system ≤ plan.bound
-  pub needs : (t : ℕ) → HasTask system t → memory_of_task system t ≤ plan.bound
+-- a bound is at least what is there at the start, and what each task reads and needs
+pub record IsPlainBound (system : SharedTaskSystem) (bound : ℕ) : Type 0 where
+  pub start : memory_at_start system ≤ bound
+  pub needs : (t : ℕ) → HasTask system t → memory_of_task system t ≤ bound
 
 -- a plan that is accepted; it is least, or no term is made of the system: it has none, or one of too many arcs
 pub record IsGraphPlan (system : SharedTaskSystem) (plan : BoundedPlanValue) : Type 0 where
   pub accepted : IsBoundAccepted system plan
   pub least_or_not : IsLeastPlan system plan ⊎ IsWithoutTerm system
-  pub plain : HasPlainBound system plan
+  pub plain : IsPlainBound system plan.bound
 
 -- its peak is no higher than that of another order
 abbrev pub IsNoWorse : SharedTaskSystem → List ℕ → BoundedPlanValue → Type 0

@@ -4,7 +4,7 @@ ghost use Rattle.std.specs.Prelude.{◌≤◌, IfOk};
 ghost use Rattle.shared_systems.specs.SharedMemory.{shared_peak_of};
 ghost use Rattle.shared_systems.specs.SharedTraversal.{IsSharedTraversal};
 ghost use Rattle.bound_check.specs.Accepted.{IsBoundAccepted};
-ghost use Rattle.graph_plan.specs.Planned.{IsNoWorse, HasPlainBound};
+ghost use Rattle.graph_plan.specs.Planned.{IsNoWorse, IsPlainBound};
 ghost use Rattle.graph_plan.specs.Drafts.{IsDraft};
 
 use crate::NoMemory;
@@ -62,7 +62,7 @@ pub fn plan_near(
 ) -> Result<BoundedPlan, NoMemory>
     requires { IsSharedTraversal system.now start.now }
     ensures accepted { IfOk result (IsBoundAccepted system.now) }
-    ensures plain { IfOk result (HasPlainBound system.now) }
+    ensures plain { IfOk result (λ plan. IsPlainBound system.now plan.bound) }
     ensures no_worse { IfOk result (IsNoWorse system.now start.now) }
 {
     let mut draft = draft_by_sums(alloc, system, start, effort)?;
