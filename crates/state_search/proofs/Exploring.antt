@@ -29,16 +29,6 @@ pub record AreExploring (system : SharedTaskSystem) (bound most : ℕ) (states :
   pub count : round + length waiting ≡ length states.rows
 
 module _ (system : SharedTaskSystem) (bound most : ℕ) (states : KeptStates) (waiting : List ℕ) where
-  pub exploring_begins : AreLookedAt system bound states → (memory_in system (all_done system) < bound → 0 < length states.rows)
-      → Extends [] [] states.rows waiting → AreExploring system bound most states waiting 0
-  exploring_begins looked some extends = record {
-    looked = looked;
-    some = some;
-    followed = λ few i lt. inl (extends.fresh i (omega arith) lt);
-    inside = extends.inside (λ i e. absurd (let f : false ≡ true = e in cc));
-    count = omega (arith, extends.balanced);
-  }
-
   module _ (round : ℕ) (exploring : AreExploring system bound most states waiting round) where
     all_followed : length states.rows ≤ most → waiting ≡ [] → (i : ℕ) → i < length states.rows
         → IsFollowed system bound states.rows (state_at states.rows i)

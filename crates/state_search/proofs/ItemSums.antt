@@ -1,7 +1,7 @@
--- Sizes of the first items that pass a test, and of one more.
-use Rattle.std.proofs.Common.{◌≡◌, ℕ, ◌+◌, ◌<◌, ◌≤◌, Bool, cond, List, length, take, ap, ◌∙◌}
+-- Sizes of the first items that pass a test.
+use Rattle.std.proofs.Common.{ℕ, ◌+◌, ◌<◌, ◌≤◌, Bool, List, length, take}
 use Rattle.std.specs.List.{sum_by}
-use Rattle.std.proofs.lemmas.List.Sums.{sum_by_more, sum_by_more_le_part}
+use Rattle.std.proofs.lemmas.List.Sums.{sum_by_more_le_part}
 use Rattle.shared_systems.specs.Shared.{SharedItem, shared_item_at, shared_size_if, shared_size_where}
 use Rattle.shared_systems.specs.Bounds.{shared_size}
 use Rattle.shared_systems.proofs.KeySums.{no_item, part-le}
@@ -9,9 +9,3 @@ use Rattle.shared_systems.proofs.KeySums.{no_item, part-le}
 pub size_fits : (test : SharedItem → Bool) (items : List SharedItem) (i : ℕ) → i < length items
     → shared_size_where test (take i items) + (shared_item_at items i).size ≤ sum_by shared_size items
 size_fits test items i lt = sum_by_more_le_part (shared_size_if test) shared_size items i no_item lt (part-le test)
-
-pub size_more : (test : SharedItem → Bool) (items : List SharedItem) (i : ℕ) (passed : Bool) → i < length items → test (shared_item_at items i) ≡ passed
-    → shared_size_where test (take (i + 1) items) ≡ shared_size_where test (take i items) + cond passed (shared_item_at items i).size 0
-size_more test items i passed lt e =
-    sum_by_more (shared_size_if test) items i no_item lt
-    ∙ ap (λ (b : Bool). shared_size_where test (take i items) + cond b (shared_item_at items i).size 0) e

@@ -1,13 +1,11 @@
 -- One more state is kept; states that are kept are looked at.
-use Rattle.std.proofs.Common.{◌≡◌, ◌≢◌, ℕ, zero, suc, ◌+◌, ◌≤◌, ◌<◌, Bool, true, false, ◌||◌, eqb, eq-eqb, List, [], ◌∷◌, ◌++◌, inl, inr}
-use Rattle.std.proofs.Common.{length, refl, sym, ap, subst, ◌∙◌, arith}
+use Rattle.std.proofs.Common.{◌≡◌, ◌≢◌, ℕ, zero, suc, ◌+◌, ◌≤◌, ◌<◌, Bool, List, [], ◌∷◌, ◌++◌, inl, inr}
+use Rattle.std.proofs.Common.{length, sym, ap, subst, ◌∙◌, arith}
 use Rattle.std.proofs.lemmas.List.{get_or_append_left, length-append}
 use Rattle.std.proofs.lemmas.List.Elements.{All-from_get_or}
-use Rattle.std.proofs.lemmas.Bool.{cases_lt, or_cases, or_left, eqb-true}
+use Rattle.std.proofs.lemmas.Bool.{cases_lt}
 use Rattle.std.proofs.Math.Seq.{get_or-append_seam}
-use Rattle.mp_system.specs.Memory.{stands_in}
 use Rattle.shared_systems.specs.Shared.{SharedTaskSystem}
-use Rattle.shared_systems.proofs.Steps.{stands_push}
 use Rattle.state_search.specs.declared.states.Link.{Link}
 use Rattle.state_search.specs.States.{without, state_at, IsStepBack, IsLookedAt, end, back, HasManyStates}
 use Rattle.state_search.specs.Kept.{KeptStates, link_at, IsKept, IsNew, IsBefore, AreLookedAt, Extends}
@@ -86,40 +84,6 @@ module _ (system : SharedTaskSystem) (bound : ℕ) (old new : KeptStates) (link 
   }
 
 -- ---- what waits
-
-pub extends_same : (rows : List (List Bool)) (waiting : List ℕ) → Extends rows waiting rows waiting
-extends_same rows waiting = record {
-  longer = omega arith;
-  same = λ i lt. refl;
-  waits = λ i e. e;
-  fresh = λ i low high. absurd (omega (arith, low, high));
-  inside = λ all i e. all i e;
-  balanced = omega arith;
-}
-
-module _ (rows more : List (List Bool)) (waiting later : List ℕ) (marks : List Bool) (n : ℕ) (n_is : n ≡ length rows)
-    (rows_are : more ≡ rows ++ marks ∷ []) (waiting_are : later ≡ waiting ++ n ∷ []) where
-  pushed : (i : ℕ) → stands_in later i ≡ (stands_in waiting i || eqb n i)
-  pushed i = ap (λ (l : List ℕ). stands_in l i) waiting_are ∙ stands_push waiting n i
-
-  or_right : (b : Bool) → (b || true) ≡ true
-  or_right true = refl
-  or_right false = refl
-
-  pub extends_more : Extends rows waiting more later
-  extends_more = record {
-    longer = omega (arith, long rows more marks rows_are);
-    same = λ i lt. before_it rows more marks rows_are i lt;
-    waits = λ i e. pushed i ∙ or_left (stands_in waiting i) (eqb n i) e;
-    fresh = λ i low high.
-        let here : n ≡ i = omega (arith, low, high, long rows more marks rows_are, n_is) in
-        pushed i ∙ ap (λ (b : Bool). stands_in waiting i || b) (eq-eqb n i here) ∙ or_right (stands_in waiting i);
-    inside = λ all i e. elim (or_cases (stands_in waiting i) (eqb n i) (sym (pushed i) ∙ e)) [
-      | inl old ↦ omega (arith, all i old, long rows more marks rows_are)
-      | inr last ↦ omega (arith, eqb-true n i last, n_is, long rows more marks rows_are)
-    ];
-    balanced = omega (arith, long rows more marks rows_are, ap (λ (l : List ℕ). length l) waiting_are, length-append waiting (n ∷ []));
-  }
 
 module _ (rows : List (List Bool)) (waiting : List ℕ) (more : List (List Bool)) (later : List ℕ) (most : List (List Bool)) (last : List ℕ)
     (one : Extends rows waiting more later) (two : Extends more later most last) where

@@ -79,12 +79,6 @@ module _ (system : SharedTaskSystem) (bound : ℕ) (marks : List Bool) where
     | inr past ↦ (let same : w ≡ n = omega (arith, past, lt) in ap (may_wait system bound marks) same ∙ here)
   ]
 
-  none_first : may_wait system bound marks 0 ≡ false
-  none_first = cannot_wait 0 refl
-
-  pub none_at_first : (w : ℕ) → w < 1 → may_wait system bound marks w ≡ false
-  none_at_first w lt = let same : w ≡ 0 = omega arith in ap (may_wait system bound marks) same ∙ none_first
-
   -- the first that may wait is the only one that is taken
   pub only_first : (t : ℕ) → may_wait system bound marks t ≡ true → ((w : ℕ) → w < t → may_wait system bound marks w ≡ false)
       → (steps : List ℕ) → steps ≡ t ∷ [] → (v : ℕ) → (stands_in steps v ≡ true) ↔ IsStepBack system bound marks v

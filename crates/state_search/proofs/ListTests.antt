@@ -1,5 +1,5 @@
 -- Tests of the elements of a list, and sums of two numbers of each.
-use Rattle.std.proofs.Common.{◌≡◌, ℕ, zero, suc, ◌+◌, ◌<◌, ◌≤◌, Bool, true, false, List, [], ◌∷◌, ◌⊎◌, inl, inr, length, get_or, refl, sym, ap, ◌∙◌, arith}
+use Rattle.std.proofs.Common.{◌≡◌, ℕ, zero, suc, ◌+◌, ◌<◌, ◌≤◌, Bool, true, false, List, [], ◌∷◌, ◌⊎◌, inl, inr, length, get_or, sym, ap, ◌∙◌, arith}
 use Rattle.std.specs.List.{list_any, list_all, sum_by}
 use Rattle.std.proofs.lemmas.List.Sums.{sum_by-cons}
 use Rattle.std.proofs.lemmas.Bool.{cases_Bool, cases_lt, or_cases, or_parts, or_left, or_right, and_parts, and_from}
@@ -26,10 +26,6 @@ module _ {X : Type 0} where
       let parts = or_parts (t x) (list_any t xs) none in
       let both = and_parts (p x) (list_all p xs) e in
       and_from (q x) (list_all q xs) (on x parts.0 both.0) (all_on t p q on xs parts.1 both.1)
-
-  pub all_true : (p : X → Bool) → ((x : X) → p x ≡ true) → (xs : List X) → list_all p xs ≡ true
-  all_true p each [] = refl
-  all_true p each (x ∷ xs) = and_from (p x) (list_all p xs) (each x) (all_true p each xs)
 
   -- the place of an element that passes
   pub any_place : (p : X → Bool) (d : X) (xs : List X) → list_any p xs ≡ true → (i : ℕ) × (i < length xs) × (p (get_or xs i d) ≡ true)

@@ -1,9 +1,9 @@
 -- What a state tells of its tasks, one item further, and of one task.
-use Rattle.std.proofs.Common.{◌≡◌, ℕ, ◌+◌, ◌<◌, ◌≤◌, Bool, true, false, cond, ◌&&◌, not, eqb, eq-eqb, ltb, lt-ltb, List, length, get_or, set, take}
-use Rattle.std.proofs.Common.{length-take, get_or-take, refl, sym, ap, ◌∙◌, arith, inl, inr}
+use Rattle.std.proofs.Common.{◌≡◌, ℕ, ◌+◌, ◌<◌, ◌≤◌, Bool, true, false, cond, ◌&&◌, not, eqb, eq-eqb, List, length, get_or, set, take}
+use Rattle.std.proofs.Common.{length-take, get_or-take, sym, ap, ◌∙◌, arith, inl, inr}
 use Rattle.std.specs.List.{list_any}
 use Rattle.std.specs.List.Sorted.{IsStrictlyIncreasing}
-use Rattle.std.proofs.lemmas.Bool.{cases_eq, and_parts, eqb-true, ltb-true, ne_eqb, false_from_ne_true}
+use Rattle.std.proofs.lemmas.Bool.{cases_eq, and_parts, eqb-true, ne_eqb, false_from_ne_true}
 use Rattle.std.proofs.lemmas.List.{get_or-set_same, get_or-set_other}
 use Rattle.std.proofs.lemmas.List.Folds.{list_any_more}
 use Rattle.row_table.proofs.NumberLists.{rises}
@@ -11,10 +11,10 @@ use Rattle.lists.proofs.Bools.{or_true, or_false, false_of_not}
 use Rattle.limits.specs.Limits.{most_total}
 use Rattle.mp_system.specs.Replay.{is_marked}
 use Rattle.shared_systems.specs.Shared.{SharedTaskSystem, shared_outputs_of}
-use Rattle.shared_systems.specs.SharedMemory.{is_held, shared_running}
+use Rattle.shared_systems.specs.SharedMemory.{is_held}
 use Rattle.shared_systems.specs.Bounds.{IsSharedSystem}
 use Rattle.shared_systems.proofs.KeySums.{where-le}
-use Rattle.state_search.specs.States.{without, memory_in, memory_before, has_successor, can_be_last}
+use Rattle.state_search.specs.States.{without, memory_in, memory_before, has_successor}
 use Rattle.state_search.specs.Views.{is_regained, regained_of}
 use Rattle.state_search.proofs.ListTests.{any_place}
 use Rattle.state_search.proofs.ItemMarks.{memory_back}
@@ -77,29 +77,3 @@ module _ (system : SharedTaskSystem) (is : IsSharedSystem system) (marks : List 
   before_sum e =
       let parts = free_parts e in
       memory_back (is_marked marks) (is_marked (without marks v)) v (loses marks v parts.0) parts.0 system parts.1
-
-  module _ (bound : ℕ) where
-    pub not_free : (is_marked marks v && not (has_successor system marks v)) ≡ false → can_be_last system bound marks v ≡ false
-    not_free e = neither (is_marked marks v) (not (has_successor system marks v)) (ltb (shared_running system (is_marked (without marks v)) v) bound) e
-      where
-        neither : (a b c : Bool) → (a && b) ≡ false → (a && (b && c)) ≡ false
-        neither false b c h = refl
-        neither true false c h = refl
-        neither true true c h = absurd cc
-
-    pub not_last : bound ≤ shared_running system (is_marked (without marks v)) v → can_be_last system bound marks v ≡ false
-    not_last high =
-        let running = shared_running system (is_marked (without marks v)) v in
-        let no_room : ltb running bound ≡ false = false_from_ne_true (ltb running bound) (λ low. omega (arith, high, ltb-true running bound low)) in
-        rw no_room (never (is_marked marks v) (not (has_successor system marks v)))
-      where
-        never : (a b : Bool) → (a && (b && false)) ≡ false
-        never false b = refl
-        never true false = refl
-        never true true = refl
-
-    pub is_last : (is_marked marks v && not (has_successor system marks v)) ≡ true
-        → shared_running system (is_marked (without marks v)) v < bound → can_be_last system bound marks v ≡ true
-    is_last e low =
-        let parts = free_parts e in
-        rw (parts.0, parts.1, lt-ltb (shared_running system (is_marked (without marks v)) v) bound low) refl
