@@ -19,23 +19,24 @@ use mp_system::laws::traversal_law;
 use mp_system::{Item, OrderFault, ReplayRefusal, System, replay};
 use std::alloc::Global;
 
-/// Fences, and the amounts that are handed on: of the items, in their order, and behind them of the fences, in theirs.
+/// Fences, and the amounts that are handed on: those of the items, in the order of the items, and behind them those of the fences, in the order of
+/// the fences. So `judge_fences` takes them.
 #[derive(Drop)]
 pub struct Fencing {
     pub fences: Vec<Fence>,
-    /// In the unit of the sizes: an item hands its size on.
+    /// In the unit of the sizes. An item hands on its size, and what its consumer takes of what its producer gave back.
     pub amounts: Vec<u64>,
 }
 
 /// Why no fences are made along an order.
 #[derive(Clone, Copy, Debug, PartialEq, Eq)]
 pub enum FencingRefusal {
-    /// The order is no traversal.
+    /// The order is no traversal: its first fault.
     Order(OrderFault),
-    /// The order's peak, which is above the bound.
+    /// The order's peak is above the bound.
     Bound { peak: u64 },
-    /// There would be more items and fences together than the limit `positions`. Where the items and twice the tasks are no more than that, this
-    /// does not come.
+    /// There would be more items and fences together than the limit `positions`. It does not come where the items and twice the tasks are within
+    /// that limit, as they are where the items are the arcs of a task graph.
     ManyFences,
     /// Memory ran out, which says nothing of the order.
     NoMemory,
@@ -110,12 +111,14 @@ fn fences_of(alloc: Global, takings: &[Taking]) -> Result<Vec<Fence>, NoMemory>
     Ok(fences)
 }
 
-/// Fences along a traversal, and amounts along the items and the fences, with which no parallel run uses more than the bound, as `judge_fences`
-/// judges it. The order passes the fences. So there are fences for each bound from the order's peak on; where the bound leaves what all tasks
-/// need together there are none, and at most two for each task.
+/// Fences along a traversal, and amounts, with which no parallel run uses more than the bound, as `judge_fences` judges it: whatever starts the
+/// tasks, on however many workers, and however long they take. The order passes the fences, so no run comes to a stop. There are fences for each
+/// bound from the order's peak on, at most two for each task, and none where the bound has room for what all tasks need together. Sizes, amounts,
+/// peaks and the bound have one unit. Linear in the tasks and items.
 ///
-/// Of what the bound leaves at the start tasks draw as long as there is something, and then take what was given back, the latest first; each
-/// taking of what another task gave back is a fence, from that task to this one. Linear in the tasks and items.
+/// What the bound leaves at the start is a pool. A task that comes next takes what it needs first of what its suppliers gave back, which is handed
+/// on along the items and needs no fence; then out of the pool, as long as there is something, which needs none either; and then of what other
+/// tasks gave back, the latest first, with a fence from each of them. At its end it gives back what it held and does not hand on.
 pub fn fence_along(
     alloc: Global,
     system: &System,
