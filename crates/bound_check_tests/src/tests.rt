@@ -138,8 +138,7 @@ fn claims_need_a_term(rt: HostRuntime) -> Result<(), Fail> {
 
 // Below 11 no more states of the five tasks are looked at than that in which all are done and that before task 5; below 10 only the first,
 // and below 0 none.
-const BY_STATES: &str =
-    "plan 3\norder 5\n1\n3\n2\n4\n5\npeak 11\nbound 11\nstates 2\nend\n";
+const BY_STATES: &str = "plan 3\norder 5\n1\n3\n2\n4\n5\npeak 11\nbound 11\nstates 2\nend\n";
 
 #[rattlefmt::skip]
 const LOOKED_AT: &[(&str, BoundVerdict)] = &[
