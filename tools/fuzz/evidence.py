@@ -7,6 +7,7 @@ from models import SharedSystem, rows
 
 # So many marks of states are looked at at most, one for each task of each.
 MOST_MARKS = 2**27
+MOST_VISITS = 2**32
 
 # All states of no more tasks than this are looked at here.
 FEW = 16
@@ -135,12 +136,16 @@ class Judge:
         return "need low" if memory < plan.bound else None
 
     def objections_to_states(self, plan: BoundedPlan) -> list[str]:
-        if plan.number * self.system.count > MOST_MARKS:
+        if not self.have_room(plan.number):
             return ["states room"]
         states = self.states_below(plan.bound, plan.number)
         many = len(states) > plan.number
         is_open = many and self.system.count > FEW
         return ["states order"] * (0 in states or is_open) + ["states many"] * many
+
+    def have_room(self, most: int) -> bool:
+        visits = sum(1 + len(item.readers) for item in self.system.items)
+        return most * self.system.count <= MOST_MARKS and most * visits <= MOST_VISITS
 
     def states_below(self, bound: int, most: int) -> set[int]:
         """The states that are looked at, each as a number with a bit for each task that is done; of a large system no more than these."""

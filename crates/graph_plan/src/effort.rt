@@ -1,11 +1,6 @@
 //! How many steps the searches take at most: the more tasks a graph has, the more. An effort is what the bound of about a thousand tasks may take.
 //! How many states are looked at: the more tasks, the fewer.
 
-ghost use Rattle.std.specs.Prelude.{◌*◌, ◌≤◌};
-ghost use Rattle.state_search.specs.Shown.{most_marks};
-
-use state_search::MOST_MARKS;
-
 // In thousandths of the effort: what the search for an order begins with, what each thousand tasks add, and the most.
 const ORDER: u64 = 500;
 
@@ -27,6 +22,9 @@ const QUICK: u64 = 20;
 const MARKS: u64 = 1 << 24;
 
 const FOR_MARKS: u64 = 1_000_000_000;
+
+// Their number fits 32 bits.
+const MOST_STATES: u64 = (1 << 32) - 1;
 
 // So many thousandths of an effort.
 fn thousandths(effort: u64, first: u64, by_tasks: u64, most: u64, tasks: usize) -> u64 {
@@ -50,11 +48,9 @@ pub fn bound_effort(effort: u64, tasks: usize) -> u64 {
     thousandths(effort, BOUND, BOUND_BY_TASKS, MOST_FOR_BOUND, tasks)
 }
 
-/// How many states may be looked at at a time: so many that they have 2^24 marks, one for each task of each, at an effort of 1,000,000,000, in
-/// proportion to the effort, and at most [`MOST_MARKS`].
-pub fn states_effort(effort: u64, tasks: usize) -> u32
-    ensures { result * tasks ≤ most_marks }
-{
-    let marks = (effort.saturating_mul(MARKS) / FOR_MARKS).min(MOST_MARKS);
-    (marks / (tasks as u64).max(1)) as u32
+/// How many states may be looked at at a time: so many that they have 2^24 marks, one for each task of each, at an effort of 1,000,000,000, and
+/// in proportion to the effort.
+pub fn states_effort(effort: u64, tasks: usize) -> u32 {
+    let marks = effort.saturating_mul(MARKS) / FOR_MARKS;
+    (marks / (tasks as u64).max(1)).min(MOST_STATES) as u32
 }

@@ -17,6 +17,7 @@ use bounded_plans::{BoundEvidence, BoundedPlan};
 use graph_orders::find_order;
 use shared_systems::SharedSystem;
 use shared_systems::laws::order_law;
+use state_search::most_states;
 use std::alloc::Global;
 
 // The best order that is found from a first one, and a bound by sums. The bound is looked for below the peak of an order that is found soon,
@@ -66,7 +67,7 @@ pub fn plan_near(
     ensures no_worse { IfOk result (IsNoWorse system.now start.now) }
 {
     let mut draft = draft_by_sums(alloc, system, start, effort)?;
-    let most = states_effort(effort, system.tasks().len());
+    let most = most_states(system, states_effort(effort, system.tasks().len()));
     look_at_states(alloc, system, &mut draft, most)?;
     Ok(draft.into_plan())
 }

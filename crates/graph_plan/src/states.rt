@@ -1,8 +1,8 @@
 //! Looking at the states of a system below a target finds an order with a peak below it, or shows that there is none, or finds that there are
 //! too many states.
 
-ghost use Rattle.std.specs.Prelude.{◌*◌, ◌≤◌, length, IfSome, OnOk};
-ghost use Rattle.state_search.specs.Shown.{most_marks};
+ghost use Rattle.std.specs.Prelude.{◌≤◌, IfSome, OnOk};
+ghost use Rattle.state_search.specs.Shown.{HaveRoom};
 ghost use Rattle.graph_plan.specs.Drafts.{IsDraft};
 
 use crate::NoMemory;
@@ -33,7 +33,7 @@ fn look_below(
     target: u64,
     most: u32,
 ) -> Result<bool, NoMemory>
-    requires room { most * length system.now.tasks ≤ most_marks }
+    requires room { HaveRoom system.now most }
     requires draft { IsDraft system.now draft.old }
     requires low { draft.old.bound ≤ target }
     requires high { target ≤ draft.old.peak }
@@ -64,7 +64,7 @@ fn lower_peak(
     draft: &mut Draft,
     most: u32,
 ) -> Result<(), NoMemory>
-    requires room { most * length system.now.tasks ≤ most_marks }
+    requires room { HaveRoom system.now most }
     requires draft { IsDraft system.now draft.old }
     ensures draft { OnOk result (IsDraft system.now draft.new) }
     ensures no_worse { OnOk result (draft.new.peak ≤ draft.old.peak) }
@@ -103,7 +103,7 @@ fn raise_bound(
     draft: &mut Draft,
     most: u32,
 ) -> Result<(), NoMemory>
-    requires room { most * length system.now.tasks ≤ most_marks }
+    requires room { HaveRoom system.now most }
     requires draft { IsDraft system.now draft.old }
     ensures draft { OnOk result (IsDraft system.now draft.new) }
     ensures no_worse { OnOk result (draft.new.peak ≤ draft.old.peak) }
@@ -128,7 +128,7 @@ pub fn look_at_states(
     draft: &mut Draft,
     most: u32,
 ) -> Result<(), NoMemory>
-    requires room { most * length system.now.tasks ≤ most_marks }
+    requires room { HaveRoom system.now most }
     requires draft { IsDraft system.now draft.old }
     ensures draft { OnOk result (IsDraft system.now draft.new) }
     ensures no_worse { OnOk result (draft.new.peak ≤ draft.old.peak) }

@@ -14,3 +14,4 @@ pub mod ItemSums
 pub mod TaskNeeds
 pub mod Runs
 pub mod FoundRows
+pub mod Visits

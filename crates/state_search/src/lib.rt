@@ -22,7 +22,7 @@ mod states;
 mod view;
 
 pub use explored::{Explored, explore};
-pub use judging::{MOST_MARKS, StatesObjection, judge_states};
+pub use judging::{MOST_MARKS, MOST_VISITS, StatesObjection, judge_states, most_states};
 use std::alloc::AllocError;
 
 /// Want of memory: an allocation was refused.

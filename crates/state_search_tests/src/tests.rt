@@ -3,7 +3,9 @@
 use mp_system::GivenTask;
 use shared_systems::{GivenSharedItem, SharedSystem, shared_system_of_arrays};
 use state_search::laws::states_law;
-use state_search::{Explored, MOST_MARKS, StatesObjection, explore, judge_states};
+use state_search::{
+    Explored, MOST_MARKS, MOST_VISITS, StatesObjection, explore, judge_states, most_states,
+};
 use std::alloc::Global;
 
 fn task(extra: u64, share: u64) -> GivenTask {
@@ -214,4 +216,34 @@ fn the_room_is_looked_at_first(rt: HostRuntime) {
         judged(alloc, pairs(alloc), 11, 22_369_622),
         Some(Some(StatesObjection::Room))
     );
+}
+
+// One task, and a hundred items that stay.
+fn crowd(alloc: Global) -> Option<SharedSystem> {
+    system_of(alloc, &[task(0, 0)], &[item(1, 0, 0); 100], &[])
+}
+
+// 2^32 looks at items are 42,949,672 states of a hundred, and 96 looks more.
+#[test]
+fn the_room_for_looks_at_items_is_looked_at_too(rt: HostRuntime) {
+    let alloc = rt.alloc();
+    assert_eq!(rt; MOST_VISITS, 4_294_967_296);
+    assert_eq!(rt; judged(alloc, crowd(alloc), 10, 42_949_672), Some(None));
+    assert_eq!(rt;
+        judged(alloc, crowd(alloc), 10, 42_949_673),
+        Some(Some(StatesObjection::Room))
+    );
+}
+
+// The most states of a system that have room.
+fn most_of(system: Option<SharedSystem>, most: u32) -> Option<u32> {
+    Some(most_states(&system?, most))
+}
+
+#[test]
+fn no_more_states_than_have_room(rt: HostRuntime) {
+    let alloc = rt.alloc();
+    assert_eq!(rt; most_of(crowd(alloc), 4_294_967_295), Some(42_949_672));
+    assert_eq!(rt; most_of(pairs(alloc), 4_294_967_295), Some(22_369_621));
+    assert_eq!(rt; most_of(pairs(alloc), 7), Some(7));
 }
