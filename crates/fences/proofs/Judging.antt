@@ -15,9 +15,11 @@ use Rattle.mp_system.specs.Memory.{is_done_or, is_present, state_memory}
 use Rattle.fences.specs.Moments.{numbers_of}
 use Rattle.fences.specs.Amounts.{AreHandedOn, with_size, carrying, received_by, handed_on_by, drawn_by}
 use Rattle.fences.specs.TaskSums.{HasEnds, AreSums}
+use Rattle.fences.specs.Workers.{relieved}
 use Rattle.fences.proofs.Swaps.{count_of, once_in_range, swap}
 use Rattle.fences.proofs.Cuts.{carried}
 use Rattle.fences.proofs.Sizes.{size_where-le, carried_total, sum_range_le, sum_range_more}
+use Rattle.fences.proofs.Relieving.{extra_same, need_less}
 
 -- ---- tables of sums at the place of a task
 
@@ -103,26 +105,27 @@ module _ (system : TaskSystem) (sys : IsSystem system) (amounts : List ℕ) (is 
       let whole : sum_by (λ v. size_where (is_output v) items) (numbers_of system) ≡ size_where test items = swap (λ _. true) (λ i. i.from) (numbers_of system) items (λ i d lt. once _ ((ends i d lt).producer)) in
       omega (arith, whole, size_where-le test items)
 
-  all_drawn : sum_by (drawn_by system amounts) (numbers_of system) ≤ 3 * 2 ^ 60 + 2 ^ 62
-  all_drawn =
-      let parts = sums_le4 (inputs_of system) (λ v. (task_at system v).extra) (outputs_of system) (handed_on_by system amounts) (drawn_by system amounts)
-      (λ v. drawn_parts (inputs_of system v) (task_at system v).extra (outputs_of system v) (task_at system v).share (handed_on_by system amounts v) (received_by system amounts v)) (numbers_of system) in
-      let extras = sum_const_le (λ v. (task_at system v).extra) (λ v. extra_le system.tasks (v - 1) sys.tasks) (numbers_of system) in
+  all_drawn : (room : ℕ) → sum_by (drawn_by (relieved room system) amounts) (numbers_of system) ≤ 3 * 2 ^ 60 + 2 ^ 62
+  all_drawn room =
+      let less = relieved room system in
+      let parts = sums_le4 (inputs_of system) (λ v. (task_at less v).extra) (outputs_of system) (handed_on_by system amounts) (drawn_by less amounts)
+      (λ v. drawn_parts (inputs_of system v) (task_at less v).extra (outputs_of system v) (task_at less v).share (handed_on_by system amounts v) (received_by system amounts v)) (numbers_of system) in
+      let extras = sum_const_le (λ v. (task_at less v).extra) (λ v. omega (arith, extra_same room system.tasks (v - 1), extra_le system.tasks (v - 1) sys.tasks)) (numbers_of system) in
       omega (arith, parts, extras, length-range_with_len 1 (length system.tasks), sys.few_tasks, sys.total, all_inputs system.items own_ends, all_outputs system.items own_ends, all_outputs (carrying system amounts).items amounts_ends, amounts_total)
 
   -- the sum over the first tasks fits
-  pub value_fits : (k : ℕ) → k ≤ length system.tasks → state_memory (carrying system amounts) (λ _. false) + sum_by (drawn_by system amounts) (range_with_len 1 k) ≤ 2 ^ 63 + 3 * 2 ^ 60
-  value_fits k le =
-      omega (arith, all_drawn, sum_range_le (drawn_by system amounts) 1 k (length system.tasks) le, size_where-le (is_present (λ _. false)) (carrying system amounts).items, amounts_total)
+  pub value_fits : (room k : ℕ) → k ≤ length system.tasks → state_memory (carrying system amounts) (λ _. false) + sum_by (drawn_by (relieved room system) amounts) (range_with_len 1 k) ≤ 2 ^ 63 + 3 * 2 ^ 60
+  value_fits room k le =
+      omega (arith, all_drawn room, sum_range_le (drawn_by (relieved room system) amounts) 1 k (length system.tasks) le, size_where-le (is_present (λ _. false)) (carrying system amounts).items, amounts_total)
 
 -- ---- the check
 
 -- what a task adds to the bound
-pub record AddsDrawn (system : TaskSystem) (amounts : List ℕ) (i value a b f g : ℕ) (task : Task) : Type 0 where
+pub record AddsDrawn (system : TaskSystem) (amounts : List ℕ) (room i value a b f g : ℕ) (task : Task) : Type 0 where
   pub share : task.share ≤ task.extra + b
   pub fits : a + (task.extra + b) < 2 ^ 64
-  pub next : value + (max (a + (task.extra + b - task.share)) g - f) ≡ state_memory (carrying system amounts) (λ _. false) + sum_by (drawn_by system amounts) (range_with_len 1 (i + 1))
-  pub next_fits : value + (max (a + (task.extra + b - task.share)) g - f) < 2 ^ 64
+  pub next : value + (max (a + (task.extra + b - task.share - room)) g - f) ≡ state_memory (carrying system amounts) (λ _. false) + sum_by (drawn_by (relieved room system) amounts) (range_with_len 1 (i + 1))
+  pub next_fits : value + (max (a + (task.extra + b - task.share - room)) g - f) < 2 ^ 64
 
 module _ (system : TaskSystem) (sys : IsSystem system) (amounts : List ℕ) (is : AreHandedOn system amounts) (few : sum amounts ≤ 2 ^ 62)
     (tasks : List Task) (same_tasks : tasks ≡ system.tasks) (items : List Item) (same : items ≡ system.items)
@@ -142,10 +145,10 @@ module _ (system : TaskSystem) (sys : IsSystem system) (amounts : List ℕ) (is 
   carried_few = omega (arith, ap (sum_by item_size) carries, amounts_total system sys amounts is few)
 
   pub adds_drawn : (inputs outputs received handed_on : List ℕ) → AreSums (length tasks) items inputs outputs → AreSums (length tasks) carried received handed_on
-      → (i value a b f g : ℕ) (d : Task) → i < length tasks → a ≡ get_or inputs i a → b ≡ get_or outputs i b → f ≡ get_or received i f → g ≡ get_or handed_on i g
-      → value ≡ state_memory (carrying system amounts) (λ _. false) + sum_by (drawn_by system amounts) (range_with_len 1 i)
-      → AddsDrawn system amounts i value a b f g (get_or tasks i d)
-  adds_drawn inputs outputs received handed_on sizes handed i value a b f g d lt a_read b_read f_read g_read was =
+      → (room i value a b f g : ℕ) (d : Task) → i < length tasks → a ≡ get_or inputs i a → b ≡ get_or outputs i b → f ≡ get_or received i f → g ≡ get_or handed_on i g
+      → value ≡ state_memory (carrying system amounts) (λ _. false) + sum_by (drawn_by (relieved room system) amounts) (range_with_len 1 i)
+      → AddsDrawn system amounts room i value a b f g (get_or tasks i d)
+  adds_drawn inputs outputs received handed_on sizes handed room i value a b f g d lt a_read b_read f_read g_read was =
       let facts = task_facts system sys tasks same_tasks i d lt in
       let a' : a ≡ inputs_of system (i + 1) = read_input (length tasks) items inputs outputs sizes i a lt a_read ∙ ap (size_where (is_input (i + 1))) same in
       let b' : b ≡ outputs_of system (i + 1) = read_output (length tasks) items inputs outputs sizes i b lt b_read ∙ ap (size_where (is_output (i + 1))) same in
@@ -153,12 +156,13 @@ module _ (system : TaskSystem) (sys : IsSystem system) (amounts : List ℕ) (is 
       let g' : g ≡ handed_on_by system amounts (i + 1) = read_output (length tasks) carried received handed_on handed i g lt g_read ∙ ap (size_where (is_output (i + 1))) carries in
       let extra = ap (λ (t : Task). t.extra) facts.is in
       let share = ap (λ (t : Task). t.share) facts.is in
-      let drawn : max (a + ((get_or tasks i d).extra + b - (get_or tasks i d).share)) g - f ≡ drawn_by system amounts (i + 1) = omega (arith, a', b', f', g', extra, share) in
-      let next : value + (max (a + ((get_or tasks i d).extra + b - (get_or tasks i d).share)) g - f) ≡ state_memory (carrying system amounts) (λ _. false) + sum_by (drawn_by system amounts) (range_with_len 1 (i + 1)) =
-      omega (arith, was, drawn, sum_range_more (drawn_by system amounts) i) in
+      let less = need_less system room (i + 1) (omega arith, omega (arith, lt, many)) in
+      let drawn : max (a + ((get_or tasks i d).extra + b - (get_or tasks i d).share - room)) g - f ≡ drawn_by (relieved room system) amounts (i + 1) = omega (arith, a', b', f', g', extra, share, less) in
+      let next : value + (max (a + ((get_or tasks i d).extra + b - (get_or tasks i d).share - room)) g - f) ≡ state_memory (carrying system amounts) (λ _. false) + sum_by (drawn_by (relieved room system) amounts) (range_with_len 1 (i + 1)) =
+      omega (arith, was, drawn, sum_range_more (drawn_by (relieved room system) amounts) i) in
       record {
         share = omega (arith, facts.whole, b');
         fits = omega (arith, facts.extra, facts.few_outputs, facts.few_inputs, a', b');
         next = next;
-        next_fits = omega (arith, next, value_fits system sys amounts is few (i + 1) (omega (arith, lt, many)));
+        next_fits = omega (arith, next, value_fits system sys amounts is few room (i + 1) (omega (arith, lt, many)));
       }

@@ -14,3 +14,10 @@ pub mod Progress
 pub mod Orderings
 pub mod FencedLists
 pub mod Refusals
+pub mod SharedMoments
+pub mod SharedJoins
+pub mod SharedMemory
+pub mod SharedProgress
+pub mod Relieving
+pub mod RelievedFences
+pub mod Certifying

@@ -5,5 +5,8 @@ pub mod Judged
 pub mod Fences
 pub mod Orders
 pub mod JudgedFences
+pub mod Workers
+pub mod SharedRuns
+pub mod Certificates
 pub mod TaskSums
 pub mod Samples

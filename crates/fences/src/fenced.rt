@@ -1,16 +1,17 @@
 //! Whether fences keep all runs of a system within a bound, as amounts certify it.
 
-ghost use Rattle.std.specs.Prelude.{◌≡◌, ◌≤◌, ◌↔◌, ◌++◌, ℕ, List, length, map, IsTrue, IfOk, IfErr, MatchOption, MatchResult};
+ghost use Rattle.std.specs.Prelude.{◌≡◌, ◌+◌, ◌≤◌, ◌↔◌, ◌++◌, ℕ, List, length, map, IsTrue, IfOk, IfErr, MatchOption, MatchResult};
 ghost use Rattle.mp_system.specs.System.{TaskSystem};
 ghost use Rattle.mp_system.specs.Memory.{peak_of};
 ghost use Rattle.mp_system.specs.Traversal.{IsTraversal};
-ghost use Rattle.fences.specs.Runs.{BoundsRuns, NeverStops};
+ghost use Rattle.fences.specs.Runs.{NeverStops};
 ghost use Rattle.fences.specs.Amounts.{certified_bound};
 ghost use Rattle.fences.specs.JudgedFences.{AreFences, AreFew, Certify, FenceFits, FencePasses, IsFencesRefusal, LeaveOrder, PassesBefore, fence_at, fence_item, with_fences};
+ghost use Rattle.fences.specs.Workers.{BoundsRunsBeside, relieved};
 
 use crate::NoMemory;
 use crate::judged::{AmountTest, AmountsRefusal, judge_amounts};
-use crate::laws::{fence_law, fenced_law, progress_law};
+use crate::laws::{fenced_law, progress_law, workers_law};
 use crate::ordered::{OrderFault, order_of};
 use limits::MOST_POSITIONS;
 use mp_system::{Item, System};
@@ -200,54 +201,60 @@ fn judge_fenced(
     fences: &[Fence],
     fenced: &System,
     amounts: &[u64],
+    room: u64,
     bound: u64,
 ) -> Result<u64, FencesRefusal>
     requires leave { LeaveOrder system.now fences.now }
     requires fenced { fenced.now ≡ with_fences system.now fences.now }
-    ensures certify { IfOk result (λ _. Certify system.now fences.now amounts.now bound) }
-    ensures certified { IfOk result (λ certified. certified ≡ certified_bound (with_fences system.now fences.now) amounts.now) }
-    ensures runs { IfOk result (λ _. BoundsRuns (with_fences system.now fences.now) bound) }
+    ensures certify { IfOk result (λ _. Certify (relieved room system.now) fences.now amounts.now bound) }
+    ensures certified { IfOk result (λ certified. certified ≡ certified_bound (relieved room (with_fences system.now fences.now)) amounts.now) }
+    ensures runs { IfOk result (λ _. BoundsRunsBeside (with_fences system.now fences.now) room bound) }
     ensures progress { IfOk result (λ _. NeverStops (with_fences system.now fences.now)) }
     ensures order { IfOk result (λ _. (order : List ℕ) × IsTraversal (with_fences system.now fences.now) order) }
     ensures orders { IfOk result (λ _. (order : List ℕ) → IsTraversal (with_fences system.now fences.now) order →
-        IsTraversal system.now order × (peak_of system.now order ≤ bound)) }
-    ensures refused { IfErr result (IsFencesRefusal system.now fences.now amounts.now bound) }
+        IsTraversal system.now order × (peak_of system.now order ≤ bound + room)) }
+    ensures refused { IfErr result (IsFencesRefusal (relieved room system.now) fences.now amounts.now bound) }
 {
-    fence_law();
+    workers_law();
     fenced_law();
     progress_law();
     fenced.keeps();
-    let certified = judge_amounts(alloc, fenced, amounts)?;
+    let certified = judge_amounts(alloc, fenced, amounts, room)?;
     if certified > bound {
         return Err(FencesRefusal::Bound(certified));
     }
     Ok(certified)
 }
 
-/// The bound that amounts certify for a system with fences, where it is at most the bound that is asked for; else what is said first against
-/// the fences and the amounts. Then no parallel run that keeps to the fences uses more memory, whatever starts the tasks, on however many
-/// workers, and however long they take; and none comes to a stop before all tasks are done. Each order that passes the fences is one of the
-/// system, with a peak within the bound, and there is such an order.
+/// The bound that amounts certify for a system with fences, where each task needs less by `room`, if it is at most the bound that is asked for;
+/// else what is said first against the fences and the amounts. Then along every parallel run that keeps to the fences used memory is at most
+/// the bound and the room for each task that runs, whatever starts the tasks, and however long they take; and none comes to a stop before all
+/// tasks are done. Each order that passes the fences is one of the system, with a peak within the bound and the room, and there is such an
+/// order.
+///
+/// The room is what is set aside for each worker: with at most W workers the bound is certified beside W times the room, so that fewer fences
+/// are enough. With room 0 it is certified for any number of workers.
 ///
 /// There is an amount for each item, in the order of the items, and behind these one for each fence, in the order of the fences: from the
-/// size, which is 0 for a fence, to 2^60, and all together at most 2^62. Sizes, amounts and bounds have one unit. Linear in the tasks, items
-/// and fences.
+/// size, which is 0 for a fence, to 2^60, and all together at most 2^62. Sizes, amounts, bounds and the room have one unit. Linear in the
+/// tasks, items and fences.
 pub fn judge_fences(
     alloc: Global,
     system: &System,
     fences: &[Fence],
     amounts: &[u64],
+    room: u64,
     bound: u64,
 ) -> Result<u64, FencesRefusal>
-    ensures certify { IfOk result (λ _. Certify system.now fences.now amounts.now bound) }
-    ensures certified { IfOk result (λ certified. certified ≡ certified_bound (with_fences system.now fences.now) amounts.now) }
-    ensures runs { IfOk result (λ _. BoundsRuns (with_fences system.now fences.now) bound) }
+    ensures certify { IfOk result (λ _. Certify (relieved room system.now) fences.now amounts.now bound) }
+    ensures certified { IfOk result (λ certified. certified ≡ certified_bound (relieved room (with_fences system.now fences.now)) amounts.now) }
+    ensures runs { IfOk result (λ _. BoundsRunsBeside (with_fences system.now fences.now) room bound) }
     ensures progress { IfOk result (λ _. NeverStops (with_fences system.now fences.now)) }
     ensures order { IfOk result (λ _. (order : List ℕ) × IsTraversal (with_fences system.now fences.now) order) }
     ensures orders { IfOk result (λ _. (order : List ℕ) → IsTraversal (with_fences system.now fences.now) order →
-        IsTraversal system.now order × (peak_of system.now order ≤ bound)) }
-    ensures refused { IfErr result (IsFencesRefusal system.now fences.now amounts.now bound) }
+        IsTraversal system.now order × (peak_of system.now order ≤ bound + room)) }
+    ensures refused { IfErr result (IsFencesRefusal (relieved room system.now) fences.now amounts.now bound) }
 {
     let fenced = opened(alloc, system, fences)?;
-    judge_fenced(alloc, system, fences, &fenced, amounts, bound)
+    judge_fenced(alloc, system, fences, &fenced, amounts, room, bound)
 }

@@ -3,13 +3,13 @@
 ghost use Rattle.std.specs.Prelude.{◌≡◌, ◌≤◌, ◌↔◌, ℕ, List, length, sum, IsTrue, IfOk, IfErr, MatchOption, MatchResult};
 ghost use Rattle.lists.specs.Numbers.{Each};
 ghost use Rattle.mp_system.specs.System.{TaskSystem};
-ghost use Rattle.fences.specs.Runs.{BoundsRuns};
 ghost use Rattle.fences.specs.Amounts.{AreHandedOn, certified_bound};
 ghost use Rattle.fences.specs.Judged.{AmountFits, AmountPasses, AreAccepted, IsAmountsRefusal, amount_at, item_at, most_handed_on};
+ghost use Rattle.fences.specs.Workers.{BoundsRunsBeside, relieved};
 
 use crate::NoMemory;
 use crate::bound::bound_of;
-use crate::laws::fence_law;
+use crate::laws::workers_law;
 use limits::MOST_TOTAL;
 use mp_system::System;
 use std::alloc::Global;
@@ -109,20 +109,26 @@ fn judge(system: &System, amounts: &[u64]) -> Result<(), AmountsRefusal>
     Ok(())
 }
 
-/// The bound that amounts certify, in the unit of the sizes: no parallel run uses more memory, whatever starts the tasks, on however many
-/// workers, and however long they take. Else why the amounts are not handed on: the first test that fails, with the first item that fails
-/// it. There is an amount for each item, in the order of the items, from its size to 2^60, and all together are at most 2^62. Linear in the
-/// tasks and items.
-pub fn judge_amounts(alloc: Global, system: &System, amounts: &[u64]) -> Result<u64, AmountsRefusal>
+/// The bound that amounts certify, in the unit of the sizes, where each task needs less by `room`: along every parallel run used memory is at
+/// most the bound and the room for each task that runs, whatever starts the tasks, and however long they take. So with at most W workers the
+/// bound is certified beside W times the room, and with room 0 it is for any number of workers. Else why the amounts are not handed on: the
+/// first test that fails, with the first item that fails it. There is an amount for each item, in the order of the items, from its size to
+/// 2^60, and all together are at most 2^62. Linear in the tasks and items.
+pub fn judge_amounts(
+    alloc: Global,
+    system: &System,
+    amounts: &[u64],
+    room: u64,
+) -> Result<u64, AmountsRefusal>
     ensures accepted { IfOk result (λ _. AreAccepted system.now amounts.now) }
     ensures handed_on { IfOk result (λ _. AreHandedOn system.now amounts.now) }
-    ensures certified { IfOk result (λ bound. bound ≡ certified_bound system.now amounts.now) }
-    ensures runs { IfOk result (BoundsRuns system.now) }
+    ensures certified { IfOk result (λ bound. bound ≡ certified_bound (relieved room system.now) amounts.now) }
+    ensures runs { IfOk result (BoundsRunsBeside system.now room) }
     ensures refused { IfErr result (IsAmountsRefusal system.now amounts.now) }
 {
-    fence_law();
+    workers_law();
     system.keeps();
     judge(system, amounts)?;
-    let bound = bound_of(alloc, system, amounts)?;
+    let bound = bound_of(alloc, system, amounts, room)?;
     Ok(bound)
 }

@@ -1,5 +1,7 @@
 //! Amounts that are handed on, and what they are refused with; the bounds are worked by hand.
 
+mod certificates;
+
 use fences::{
     AmountTest, AmountsRefusal, Fence, FenceTest, FencesRefusal, judge_amounts, judge_fences,
 };
@@ -51,7 +53,7 @@ fn bounds_that_amounts_certify(rt: HostRuntime) -> Result<(), Fail> {
         (&chained, &[1, 5, 1, 5, 0, 10, 9, 5, 1], 11),
     ];
     for (system, amounts, bound) in rows {
-        assert_eq!(rt; judge_amounts(alloc, system, amounts), Ok(bound));
+        assert_eq!(rt; judge_amounts(alloc, system, amounts, 0), Ok(bound));
     }
     Ok(())
 }
@@ -95,7 +97,7 @@ fn amounts_that_are_refused(rt: HostRuntime) -> Result<(), Fail> {
         (&[most, most, most, most, 1], AmountsRefusal::Total),
     ];
     for (amounts, refusal) in rows {
-        assert_eq!(rt; judge_amounts(alloc, &whole, amounts), Err(refusal));
+        assert_eq!(rt; judge_amounts(alloc, &whole, amounts, 0), Err(refusal));
     }
     Ok(())
 }
@@ -107,7 +109,7 @@ fn amounts_at_the_limits(rt: HostRuntime) -> Result<(), Fail> {
     let most = 1 << 60;
     // Each leaf draws 2^60, and what each hands on is enough for the next.
     assert_eq!(rt;
-        judge_amounts(alloc, &whole, &[most, most, most, most, 0]),
+        judge_amounts(alloc, &whole, &[most, most, most, most, 0], 0),
         Ok(2 * most)
     );
     Ok(())
@@ -120,8 +122,8 @@ fn what_is_there_from_the_start(rt: HostRuntime) -> Result<(), Fail> {
     let tasks = [task(1), task(4)];
     let items = [item(7, 0, 1), item(2, 0, 2), item(3, 0, 0)];
     let stocked = system_of_arrays(alloc, &tasks, &items)?;
-    assert_eq!(rt; judge_amounts(alloc, &stocked, &[7, 2, 3]), Ok(17));
-    assert_eq!(rt; judge_amounts(alloc, &stocked, &[8, 6, 3]), Ok(17));
+    assert_eq!(rt; judge_amounts(alloc, &stocked, &[7, 2, 3], 0), Ok(17));
+    assert_eq!(rt; judge_amounts(alloc, &stocked, &[8, 6, 3], 0), Ok(17));
     Ok(())
 }
 
@@ -142,16 +144,16 @@ fn fences_that_keep_a_bound(rt: HostRuntime) -> Result<(), Fail> {
     ];
     for (fences, amounts, least) in rows {
         assert_eq!(rt;
-            judge_fences(alloc, &whole, fences, amounts, least),
+            judge_fences(alloc, &whole, fences, amounts, 0, least),
             Ok(least)
         );
         assert_eq!(rt;
-            judge_fences(alloc, &whole, fences, amounts, u64::MAX),
+            judge_fences(alloc, &whole, fences, amounts, 0, u64::MAX),
             Ok(least)
         );
         let refused = Err(FencesRefusal::Bound(least));
         assert_eq!(rt;
-            judge_fences(alloc, &whole, fences, amounts, least - 1),
+            judge_fences(alloc, &whole, fences, amounts, 0, least - 1),
             refused
         );
     }
@@ -184,7 +186,7 @@ fn fences_that_are_refused(rt: HostRuntime) -> Result<(), Fail> {
         (&[fence(1, 3)], FencesRefusal::Length),
     ];
     for (fences, refusal) in rows {
-        let judged = judge_fences(alloc, &whole, fences, &[10, 10, 10, 10, 0], 20);
+        let judged = judge_fences(alloc, &whole, fences, &[10, 10, 10, 10, 0], 0, 20);
         assert_eq!(rt; judged, Err(refusal));
     }
     Ok(())
@@ -204,7 +206,7 @@ fn amounts_of_fences_that_are_refused(rt: HostRuntime) -> Result<(), Fail> {
         (&[most, most, most, 5, 0, 0], FencesRefusal::Bound(2 * most)),
     ];
     for (amounts, refusal) in rows {
-        let judged = judge_fences(alloc, &whole, &[fence(1, 3)], amounts, 16);
+        let judged = judge_fences(alloc, &whole, &[fence(1, 3)], amounts, 0, 16);
         assert_eq!(rt; judged, Err(refusal));
     }
     Ok(())
@@ -217,8 +219,61 @@ fn an_item_of_one_task(rt: HostRuntime) -> Result<(), Fail> {
     let tasks = [task(1), task(4)];
     let items = [item(7, 1, 2), item(2, 2, 2)];
     let stuck = system_of_arrays(alloc, &tasks, &items)?;
-    assert_eq!(rt; judge_amounts(alloc, &stuck, &[7, 2]), Ok(14));
-    let judged = judge_fences(alloc, &stuck, &[], &[7, 2], 100);
+    assert_eq!(rt; judge_amounts(alloc, &stuck, &[7, 2], 0), Ok(14));
+    let judged = judge_fences(alloc, &stuck, &[], &[7, 2], 0, 100);
     assert_eq!(rt; judged, Err(FencesRefusal::OwnInput(2)));
+    Ok(())
+}
+
+// The amounts along the tree, the room, and what is certified beside it. With room 5 each leaf needs 5, and each node above one nothing: with all
+// of a leaf's memory handed on only the leaves draw, 5 each, so that one worker uses 15 at most, and two use 20. Where the sizes alone are
+// handed on, each node above a leaf draws 4 too.
+const BESIDE_ROOM: &[(&[u64], u64, u64)] = &[
+    (&[5, 5, 5, 5, 0], 5, 10),
+    (&[10, 10, 10, 10, 0], 5, 20),
+    (&[1, 5, 1, 5, 0], 5, 18),
+    (&[5, 5, 5, 5, 0], 4, 12),
+    (&[5, 5, 5, 5, 0], 6, 10),
+    (&[1, 5, 1, 5, 0], u64::MAX, 10),
+];
+
+#[test]
+fn bounds_beside_room(rt: HostRuntime) -> Result<(), Fail> {
+    let alloc = rt.alloc();
+    let whole = tree(alloc, &[])?;
+    for (amounts, room, certified) in BESIDE_ROOM {
+        let judged = judge_amounts(alloc, &whole, amounts, *room);
+        assert_eq!(rt; judged, Ok(*certified));
+    }
+    Ok(())
+}
+
+#[test]
+fn bounds_beside_room_that_are_refused(rt: HostRuntime) -> Result<(), Fail> {
+    let alloc = rt.alloc();
+    let whole = tree(alloc, &[])?;
+    for (amounts, room, certified) in BESIDE_ROOM {
+        let kept = judge_fences(alloc, &whole, &[], amounts, *room, *certified);
+        assert_eq!(rt; kept, Ok(*certified));
+        let refused = judge_fences(alloc, &whole, &[], amounts, *room, *certified - 1);
+        assert_eq!(rt; refused, Err(FencesRefusal::Bound(*certified)));
+    }
+    Ok(())
+}
+
+// The root 4 has the children 1, 2 and 3, which need 9 beside the 1 that they produce: all at once use 30, and two at once, with what the first
+// one left, 21. With no room one fence is needed for 21; with room 9 for each of two workers 3 is certified beside it, without any.
+#[test]
+fn room_for_two_workers(rt: HostRuntime) -> Result<(), Fail> {
+    let alloc = rt.alloc();
+    let tasks = [task(9), task(9), task(9), task(0)];
+    let items = [item(1, 1, 4), item(1, 2, 4), item(1, 3, 4)];
+    let wide = system_of_arrays(alloc, &tasks, &items)?;
+    let whole = judge_fences(alloc, &wide, &[], &[1, 1, 1], 0, 21);
+    assert_eq!(rt; whole, Err(FencesRefusal::Bound(30)));
+    let fenced = judge_fences(alloc, &wide, &[fence(1, 3)], &[1, 1, 1, 9], 0, 21);
+    assert_eq!(rt; fenced, Ok(21));
+    let on_two = judge_fences(alloc, &wide, &[], &[1, 1, 1], 9, 21 - 2 * 9);
+    assert_eq!(rt; on_two, Ok(3));
     Ok(())
 }

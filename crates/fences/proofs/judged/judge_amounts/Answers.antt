@@ -1,5 +1,5 @@
 use Rattle.std.proofs.Common.{sym, subst}
-use Rattle.fences.specs.Runs.{BoundsRuns}
+use Rattle.fences.specs.Workers.{BoundsRunsBeside}
 use Rattle.fences.proofs.Accepting.{handed}
 use Rattle.fences.proofs.judged.judge_amounts.Goals as goal
 
@@ -12,4 +12,5 @@ returns-clause-handed_on c = handed c.args.system.now c.args.amounts.now c.in_ok
 pub returns-clause-runs : goal.returns-clause-runs
 returns-clause-runs c =
     let amounts = handed c.args.system.now c.args.amounts.now c.in_ok-judge.ensures in
-    subst (BoundsRuns c.args.system.now) (sym c.in_ok-bound.ensures) (c.fence_law.ensures.run c.args.system.now c.args.amounts.now c.keeps.ensures.items amounts)
+    let runs = c.workers_law.ensures.run c.args.system.now c.args.room c.args.amounts.now c.keeps.ensures.items amounts in
+    subst (BoundsRunsBeside c.args.system.now c.args.room) (sym c.in_ok-bound.ensures) runs
