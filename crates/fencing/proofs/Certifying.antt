@@ -1,26 +1,29 @@
 -- The amounts certify the bound.
-use Rattle.std.proofs.Common.{◌≡◌, ℕ, ◌+◌, ◌-◌, ◌*◌, ◌≤◌, max, Bool, true, false, not, ◌&&◌, Option, List, [], ◌∷◌, ◌++◌, length, map, refl, ap, arith}
+use Rattle.std.proofs.Common.{◌≡◌, ℕ, ◌+◌, ◌-◌, ◌*◌, ◌<◌, ◌≤◌, max, Bool, true, false, not, ◌&&◌, Option, None, List, [], ◌∷◌, ◌++◌, length, get_or, map, refl, ap, arith}
 use Rattle.std.specs.Prelude.{All}
 use Rattle.std.specs.List.{sum_by, zip}
+use Rattle.std.proofs.lemmas.List.{get_or-map, length-map}
 use Rattle.std.proofs.lemmas.List.Elements.{All-filter}
 use Rattle.std.proofs.lemmas.List.Sums.{length-filter, sum_by-append}
 use Rattle.lists.proofs.Lists.{sum_by-map}
 use Rattle.limits.specs.Limits.{most_positions}
 use Rattle.mp_system.specs.declared.system.Item.{Item}
-use Rattle.mp_system.specs.System.{TaskSystem, IsSystem, IsTask, inputs_of, is_input, is_named, need_of, outputs_of, size_if, size_where}
+use Rattle.mp_system.specs.System.{TaskSystem, IsTask, inputs_of, is_input, is_named, need_of, outputs_of, size_if, size_where}
 use Rattle.mp_system.specs.Memory.{is_done_or, state_memory}
 use Rattle.mp_system.specs.Traversal.{IsTraversal}
 use Rattle.fences.specs.Amounts.{carrying, certified_bound, drawn_by, handed_on_by, received_by, with_size}
 use Rattle.fences.specs.JudgedFences.{Certify, with_fences}
 use Rattle.fences.proofs.FencedLists.{is_fenced}
 use Rattle.fences.proofs.Fencing.{need_same, size_where_same}
+use Rattle.fences.specs.declared.fenced.Fence.{Fence}
 use Rattle.fencing.specs.declared.ledger.Taking.{Taking}
+use Rattle.fencing.specs.Needs.{taken_need}
 use Rattle.fencing.specs.Takings.{AreTakings, GoesForward, amounts_for, fence_of, fences_left, handed_along, is_fence, item_of, taken_by, taken_from, taking_amount}
 use Rattle.fencing.proofs.Fitting.{accepted, fence_items}
-use Rattle.fencing.proofs.Passing.{are_fences, passes}
+use Rattle.fencing.proofs.Passing.{are_fences, passes, to_task}
 use Rattle.fencing.proofs.Raising.{along_long, along_weight, of_ends, share_of}
-use Rattle.fencing.proofs.Running.{holds_outputs}
-use Rattle.fencing.proofs.Sums.{sum_none, sums_same}
+use Rattle.fencing.proofs.Relieved.{KeepsLimits}
+use Rattle.fencing.proofs.Sums.{sum_none, sums_le, to_among}
 
 -- the fences carry what is taken along them
 fences_carry : (left : List Taking) → map with_size (zip (fence_items left) (map taking_amount left)) ≡ map item_of left
@@ -34,7 +37,7 @@ all_carry [] (x ∷ own) left long = absurd cc
 all_carry (item ∷ items) [] left long = absurd cc
 all_carry (item ∷ items) (x ∷ own) left long = ap (λ (l : List Item). with_size (item, x) ∷ l) (all_carry items own left (omega (arith, long)))
 
-module _ (system : TaskSystem) (sys : IsSystem system) (order : List ℕ) (is : IsTraversal system order) (bound : ℕ) (takings : List Taking) (are : AreTakings system order bound takings) where
+module _ (system : TaskSystem) (sys : KeepsLimits system) (order : List ℕ) (is : IsTraversal system order) (bound : ℕ) (takings : List Taking) (are : AreTakings system order bound takings) where
   abbrev left : List Taking
   left = fences_left takings
 
@@ -61,15 +64,15 @@ module _ (system : TaskSystem) (sys : IsSystem system) (order : List ℕ) (is : 
   handed_on : (v : ℕ) → handed_on_by fenced amounts v ≡ outputs_of system v + taken_from takings v
   handed_on v = carried (λ from to. is_named from v)
 
-  draws : (v : ℕ) → IsTask system v → drawn_by fenced amounts v ≡ need_of system v - taken_by takings v
+  draws : (v : ℕ) → IsTask system v → drawn_by fenced amounts v ≤ taken_need system v - taken_by takings v
   draws v task =
       let fences = is_fenced system (map fence_of left) in
       drawn_from (inputs_of fenced v) (need_of fenced v) (handed_on_by fenced amounts v) (received_by fenced amounts v) (inputs_of system v) (need_of system v) (outputs_of system v) (taken_from takings v) (taken_by takings v)
-      (size_where_same system fenced fences (is_input v)) (need_same system fenced fences v) (handed_on v) (received v) (are.given v task) (holds_outputs system sys v task)
+      (size_where_same system fenced fences (is_input v)) (need_same system fenced fences v) (handed_on v) (received v) (are.given v task)
     where
       drawn_from : (inputs' need' handed received' inputs need outputs from by : ℕ) → inputs' ≡ inputs → need' ≡ need → handed ≡ outputs + from → received' ≡ inputs + by
-          → from ≤ inputs + need - outputs → outputs ≤ inputs + need → max (inputs' + need') handed - received' ≡ need - by
-      drawn_from inputs' need' handed received' inputs need outputs from by a b c d e f = omega arith
+          → from ≤ inputs + max need (outputs - inputs) - outputs → max (inputs' + need') handed - received' ≤ max need (outputs - inputs) - by
+      drawn_from inputs' need' handed received' inputs need outputs from by a b c d e = omega arith
 
   start : state_memory (carrying fenced amounts) (λ _. false) ≡ state_memory system (λ _. false)
   start =
@@ -84,7 +87,7 @@ module _ (system : TaskSystem) (sys : IsSystem system) (order : List ℕ) (is : 
         arith,
         are.drawn,
         start,
-        sums_same (drawn_by fenced amounts) (λ v. need_of system v - taken_by takings v) 1 (length system.tasks) (λ v low high. draws v (low, omega (arith, high))),
+        sums_le (drawn_by fenced amounts) (λ v. taken_need system v - taken_by takings v) 1 (length system.tasks) (λ v low high. draws v (low, omega (arith, high))),
       )
 
   forward : All (GoesForward order) left
@@ -95,6 +98,18 @@ module _ (system : TaskSystem) (sys : IsSystem system) (order : List ℕ) (is : 
 
   pub few_fences : length left ≤ 2 * length system.tasks
   few_fences = omega (arith, length-filter is_fence takings, are.few)
+
+  -- a fence is to a task that takes something
+  takes_some : All (λ (t : Taking). 1 ≤ taken_need system t.to) takings
+  takes_some k d lt =
+      let taking = get_or takings k d in
+      omega (arith, are.solid k d lt, to_among takings k d lt, are.taken taking.to (to_task system order is taking (are.forward k d lt)))
+
+  pub needy : All (λ (f : Fence). 1 ≤ taken_need system f.to) (map fence_of left)
+  needy k d lt =
+      let none : Taking = record { from = 0; to = 0; amount = 0; along = None } in
+      let low : k < length left = omega (arith, lt, length-map left fence_of) in
+      rw (get_or-map fence_of left k none d low) (All-filter is_fence (λ (t : Taking). 1 ≤ taken_need system t.to) takings takes_some k none low)
 
   pub certify : length system.items + length left ≤ most_positions → Certify system (map fence_of left) amounts bound
   certify few = record {

@@ -10,7 +10,7 @@ use Rattle.std.proofs.lemmas.List.Sums.{AllPass-from_list_all, sum-map, sum_by-a
 use Rattle.limits.specs.Limits.{most_size, most_total}
 use Rattle.mp_system.specs.declared.system.Item.{Item}
 use Rattle.mp_system.specs.declared.system.Task.{Task}
-use Rattle.mp_system.specs.System.{TaskSystem, IsSystem, IsTask, IsTaskWithin, extra_size, is_input, is_named, is_output, item_size, need_of, outputs_of, size_if, size_where, task_at}
+use Rattle.mp_system.specs.System.{TaskSystem, IsTask, IsTaskWithin, extra_size, is_input, is_named, is_output, item_size, outputs_of, size_if, size_where, task_at}
 use Rattle.mp_system.specs.Memory.{is_done_or, is_produced, stands_in}
 use Rattle.mp_system.specs.Traversal.{IsTraversal}
 use Rattle.fences.specs.declared.judged.AmountTest.{AmountTest}
@@ -24,9 +24,11 @@ use Rattle.fences.proofs.ChainAmounts.{stands_once}
 use Rattle.fences.proofs.Sizes.{size_if-le, size_where-le}
 use Rattle.fences.proofs.Swaps.{once_in_range, swap}
 use Rattle.fencing.specs.declared.ledger.Taking.{Taking}
+use Rattle.fencing.specs.Needs.{taken_need}
 use Rattle.fencing.specs.Takings.{AreTakings, amounts_for, fence_of, fences_left, handed_along, is_fence, item_at, taken_by, taking_amount}
 use Rattle.fencing.proofs.Passing.{to_task}
 use Rattle.fencing.proofs.Raising.{along_high, along_long, along_low, along_only, along_sum}
+use Rattle.fencing.proofs.Relieved.{KeepsLimits}
 use Rattle.fencing.proofs.Sums.{all_taken, sums_le, to_among}
 
 abbrev pub fence_items : List Taking → List Item
@@ -61,7 +63,7 @@ high_of_all top [] left each all k lt = high_of_fences top left k all (omega ari
 high_of_all top (x ∷ own) left each all zero lt = each zero (omega arith)
 high_of_all top (x ∷ own) left each all (suc k) lt = high_of_all top own left (λ j l. each (suc j) (omega arith)) all k (omega arith)
 
--- ---- what all tasks need
+-- ---- what all tasks take
 
 extra_among : (tasks : List Task) (i : ℕ) → (get_or tasks i (record { extra = 0; share = 0; time = 0 })).extra ≤ sum_by extra_size tasks
 extra_among [] i = omega arith
@@ -87,28 +89,28 @@ beside test (item ∷ items) zero d lt fails =
 beside test (item ∷ items) (suc k) d lt fails =
     omega (arith, size_if-le test item, beside test items k d (omega arith) fails, sum_by-cons (size_if test) item items, sum_by-cons item_size item items)
 
-module _ (system : TaskSystem) (sys : IsSystem system) where
+module _ (system : TaskSystem) (sys : KeepsLimits system) where
   all_outputs : sum_by (outputs_of system) (numbers_of system) ≤ most_total
   all_outputs =
       let whole : sum_by (outputs_of system) (numbers_of system) ≡ size_where (λ item. is_done_or false (λ _. true) item.from) system.items =
       swap (λ _. true) (λ i. i.from) (numbers_of system) system.items (λ i d lt u e. (let task = (sys.items i d lt).producer u e in once_in_range 1 (length system.tasks) u task.0 (omega (arith, task.1)))) in
       omega (arith, whole, size_where-le (λ item. is_done_or false (λ _. true) item.from) system.items, sys.total)
 
-  all_needs : sum_by (need_of system) (numbers_of system) ≤ 2 ^ 61
-  all_needs =
+  all_taken_needs : sum_by (taken_need system) (numbers_of system) ≤ 2 ^ 61
+  all_taken_needs =
       omega (
         arith,
-        needs_within (need_of system) (λ v. (task_at system v).extra) (outputs_of system) (λ v. omega arith) (λ v. extra_within system.tasks (v - 1) sys.tasks) (numbers_of system),
+        needs_within (taken_need system) (λ v. (task_at system v).extra) (outputs_of system) (λ v. omega arith) (λ v. extra_within system.tasks (v - 1) sys.tasks) (numbers_of system),
         all_outputs,
         length-range_with_len 1 (length system.tasks),
         sys.few_tasks,
       )
 
-  need_within : (v : ℕ) → need_of system v ≤ most_total
+  pub need_within : (v : ℕ) → taken_need system v ≤ most_total
   need_within v = omega (arith, extra_among system.tasks (v - 1), size_where-le (is_output v) system.items, sys.total)
 
   -- with an item that is not among its outputs
-  need_beside : (v k : ℕ) (d : Item) → k < length system.items → is_output v (get_or system.items k d) ≡ false → (get_or system.items k d).size + need_of system v ≤ most_total
+  need_beside : (v k : ℕ) (d : Item) → k < length system.items → is_output v (get_or system.items k d) ≡ false → (get_or system.items k d).size + taken_need system v ≤ most_total
   need_beside v k d lt fails = omega (arith, extra_among system.tasks (v - 1), beside (is_output v) system.items k d lt fails, sys.total)
 
   module _ (order : List ℕ) (is : IsTraversal system order) where
@@ -140,7 +142,7 @@ module _ (system : TaskSystem) (sys : IsSystem system) where
       pub taken_within : sum_by taking_amount takings ≤ 2 ^ 61
       taken_within =
           let all = all_taken takings (numbers_of system) (λ k d lt. once_in_range 1 (length system.tasks) (get_or takings k d).to (aimed k d lt).0 (omega (arith, (aimed k d lt).1))) in
-          omega (arith, all, sums_le (taken_by takings) (need_of system) 1 (length system.tasks) (λ v least most. are.taken v (least, omega (arith, most))), all_needs)
+          omega (arith, all, sums_le (taken_by takings) (taken_need system) 1 (length system.tasks) (λ v least most. are.taken v (least, omega (arith, most))), all_taken_needs)
 
       own_within : (k : ℕ) → k < length system.items → get_or (handed_along system.items takings) k 0 ≤ most_amount
       own_within k lt = by_consumer (item_at system.items k).to refl

@@ -8,13 +8,14 @@ use Rattle.lists.proofs.Orders.{lt_or_le}
 use Rattle.std.proofs.lemmas.List.{length-append}
 use Rattle.std.proofs.lemmas.List.Elements.{All-nil, All-append, All-head, All-tail}
 use Rattle.std.proofs.lemmas.List.Sums.{count_by-le-length, sum_by-append, sum_by-cons}
-use Rattle.mp_system.specs.System.{TaskSystem, IsTask, inputs_of, outputs_of, need_of}
+use Rattle.mp_system.specs.System.{TaskSystem, IsTask, inputs_of, outputs_of}
 use Rattle.mp_system.specs.Memory.{state_memory, stands_in}
 use Rattle.mp_system.specs.Traversal.{IsTraversal}
 use Rattle.fences.specs.Moments.{numbers_of}
 use Rattle.fences.proofs.Swaps.{count_of, once_in_range}
 use Rattle.fences.proofs.Chains.{task as task_at_split}
 use Rattle.fences.proofs.ChainAmounts.{pushed, stands_once}
+use Rattle.fencing.specs.Needs.{taken_need}
 use Rattle.fencing.specs.declared.ledger.Piece.{Piece}
 use Rattle.fencing.specs.declared.ledger.Taking.{Taking}
 use Rattle.fencing.specs.Takings.{AreTakings, GoesForward, IsCarried, IsLedger, Takes, amount_from, amount_to, draws_of, fences_among, is_fence, kept_of, pieces_with, taken_by, taken_from, taking_amount}
@@ -51,7 +52,7 @@ module _ (system : TaskSystem) (bound : ℕ) (before : List ℕ) (v : ℕ) (task
       (is : IsLedger system bound before pool pieces takings) (takes : Takes system.items v amount pieces later takings more) where
     taken_here : taken_by more v ≡ amount
     taken_here =
-        let none : taken_by takings v ≤ 0 = subst (λ (b : Bool). taken_by takings v ≤ cond b (need_of system v) 0) fresh (is.taken v) in
+        let none : taken_by takings v ≤ 0 = subst (λ (b : Bool). taken_by takings v ≤ cond b (taken_need system v) 0) fresh (is.taken v) in
         let all : taken_by takes.added v ≡ sum_by taking_amount takes.added = taken_aimed v takes.added takes.aimed v ∙ rw (eq-eqb v v refl) refl in
         omega (arith, none, all, takes.total, ap (λ (l : List Taking). taken_by l v) takes.more_are, sum_by-append (amount_to v) takings takes.added)
 
@@ -73,7 +74,7 @@ module _ (system : TaskSystem) (bound : ℕ) (before : List ℕ) (v : ℕ) (task
     given_here : kept_of (pieces_with later v freed) v + taken_from more v ≡ freed
     given_here =
         let none : kept_of pieces v + taken_from takings v ≤ 0 =
-        subst (λ (b : Bool). kept_of pieces v + taken_from takings v ≤ cond b (inputs_of system v + need_of system v - outputs_of system v) 0) fresh (is.given v) in
+        subst (λ (b : Bool). kept_of pieces v + taken_from takings v ≤ cond b (inputs_of system v + taken_need system v - outputs_of system v) 0) fresh (is.given v) in
         let here : cond (eqb v v) freed 0 ≡ freed = rw (eq-eqb v v refl) refl in
         omega (arith, none, here, given_all v)
 
@@ -82,7 +83,7 @@ module _ (system : TaskSystem) (bound : ℕ) (before : List ℕ) (v : ℕ) (task
         let none : ◌≡◌ {A = ℕ} (cond (eqb v u) freed 0) 0 = rw (ne_eqb v u other) refl in
         omega (arith, none, given_all u)
 
-    draws_here : draws_of system later_tasks more v ≡ need_of system v - amount
+    draws_here : draws_of system later_tasks more v ≡ taken_need system v - amount
     draws_here = rw (here_stands, taken_here) refl
 
     draws_before : draws_of system before takings v ≡ 0
@@ -105,7 +106,7 @@ module _ (system : TaskSystem) (bound : ℕ) (before : List ℕ) (v : ℕ) (task
         (λ s. s)
         (λ n.
         let none : kept_of pieces u + taken_from takings u ≤ 0 =
-        subst (λ (b : Bool). kept_of pieces u + taken_from takings u ≤ cond b (inputs_of system u + need_of system u - outputs_of system u) 0) n (is.given u) in
+        subst (λ (b : Bool). kept_of pieces u + taken_from takings u ≤ cond b (inputs_of system u + taken_need system u - outputs_of system u) 0) n (is.given u) in
         absurd (omega arith))
         (cases_Bool (stands_in before u))
 
@@ -123,10 +124,10 @@ module _ (system : TaskSystem) (bound : ℕ) (before : List ℕ) (v : ℕ) (task
         }
 
     pub ledger_next :
-        freed + outputs_of system v ≡ inputs_of system v + need_of system v
+        freed + outputs_of system v ≡ inputs_of system v + taken_need system v
         → state_memory system (stands_in later_tasks) + inputs_of system v ≡ state_memory system (stands_in before) + outputs_of system v
-        → amount ≤ need_of system v
-        → amount + pool ≡ need_of system v + left
+        → amount ≤ taken_need system v
+        → amount + pool ≡ taken_need system v + left
         → fences_among more + length later ≤ fences_among takings + length pieces + 1
         → (1 ≤ left → fences_among more ≡ fences_among takings)
         → IsLedger system bound later_tasks left (pieces_with later v freed) more
@@ -168,15 +169,15 @@ module _ (system : TaskSystem) (bound : ℕ) (order : List ℕ) (pool : ℕ) (pi
   all_stand : (v : ℕ) → IsTask system v → stands_in order v ≡ true
   all_stand v task = stands_once order v (omega (arith, traversal.once v task))
 
-  taken : (v : ℕ) → IsTask system v → taken_by takings v ≤ need_of system v
-  taken v task = subst (λ (b : Bool). taken_by takings v ≤ cond b (need_of system v) 0) (all_stand v task) (is.taken v)
+  taken : (v : ℕ) → IsTask system v → taken_by takings v ≤ taken_need system v
+  taken v task = subst (λ (b : Bool). taken_by takings v ≤ cond b (taken_need system v) 0) (all_stand v task) (is.taken v)
 
-  drawn : state_memory system (λ _. false) + sum_by (λ v. need_of system v - taken_by takings v) (numbers_of system) + pool ≡ bound
+  drawn : state_memory system (λ _. false) + sum_by (λ v. taken_need system v - taken_by takings v) (numbers_of system) + pool ≡ bound
   drawn =
       omega (
         arith,
         is.drawn,
-        sums_same (draws_of system order takings) (λ v. need_of system v - taken_by takings v) 1 (length system.tasks) (λ v low high. rw (all_stand v (low, omega (arith, high))) refl),
+        sums_same (draws_of system order takings) (λ v. taken_need system v - taken_by takings v) 1 (length system.tasks) (λ v low high. rw (all_stand v (low, omega (arith, high))) refl),
       )
 
   aimed : All (λ (t : Taking). count_of (numbers_of system) t.to ≡ 1) takings
@@ -185,15 +186,15 @@ module _ (system : TaskSystem) (bound : ℕ) (order : List ℕ) (pool : ℕ) (pi
       let to = task_at_split system order traversal goes.before goes.rest (get_or takings k d).to goes.split in
       once_in_range 1 (length system.tasks) (get_or takings k d).to to.0 (omega (arith, to.1))
 
-  both : sum_by (λ v. need_of system v - taken_by takings v) (numbers_of system) + sum_by taking_amount takings ≡ sum_by (need_of system) (numbers_of system)
+  both : sum_by (λ v. taken_need system v - taken_by takings v) (numbers_of system) + sum_by taking_amount takings ≡ sum_by (taken_need system) (numbers_of system)
   both =
       omega (
         arith,
         all_taken takings (numbers_of system) aimed,
-        sums_add (λ v. need_of system v - taken_by takings v) (taken_by takings) (need_of system) 1 (length system.tasks) (λ v low high. omega (arith, taken v (low, omega (arith, high)))),
+        sums_add (λ v. taken_need system v - taken_by takings v) (taken_by takings) (taken_need system) 1 (length system.tasks) (λ v low high. omega (arith, taken v (low, omega (arith, high)))),
       )
 
-  none : state_memory system (λ _. false) + sum_by (need_of system) (numbers_of system) ≤ bound → fences_among takings ≡ 0
+  none : state_memory system (λ _. false) + sum_by (taken_need system) (numbers_of system) ≤ bound → fences_among takings ≡ 0
   none enough =
       ⊎_elim
       (λ (some : 0 < pool). is.unfenced (omega arith))
@@ -205,10 +206,11 @@ module _ (system : TaskSystem) (bound : ℕ) (order : List ℕ) (pool : ℕ) (pi
     drawn = omega (arith, drawn);
     taken = taken;
     given = λ v task. (
-        let given = subst (λ (b : Bool). kept_of pieces v + taken_from takings v ≤ cond b (inputs_of system v + need_of system v - outputs_of system v) 0) (all_stand v task) (is.given v) in
+        let given = subst (λ (b : Bool). kept_of pieces v + taken_from takings v ≤ cond b (inputs_of system v + taken_need system v - outputs_of system v) 0) (all_stand v task) (is.given v) in
         omega (arith, given));
     forward = is.forward;
     carried = is.carried;
+    solid = is.solid;
     few = omega (arith, is.few, long);
     none = none;
   }

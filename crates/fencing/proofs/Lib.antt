@@ -1,8 +1,12 @@
 pub mod Taken
 pub mod Sums
+pub mod Relieved
 pub mod Ledgers
 pub mod Running
 pub mod Passing
 pub mod Raising
 pub mod Fitting
 pub mod Certifying
+pub mod Joins
+pub mod Certificates
+pub mod Reserves

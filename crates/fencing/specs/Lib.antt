@@ -1,2 +1,5 @@
+pub mod Needs
 pub mod Takings
 pub mod Refusal
+pub mod Asked
+pub mod Rooms

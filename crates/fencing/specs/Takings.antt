@@ -4,10 +4,11 @@ use Rattle.std.specs.Prelude.{◌≡◌, ◌==◌, ℕ, zero, suc, ◌+◌, ◌*
 use Rattle.std.specs.List.{filter, fold, sum_by}
 use Rattle.std.specs.Option.{ForSome}
 use Rattle.mp_system.specs.declared.system.Item.{Item}
-use Rattle.mp_system.specs.System.{TaskSystem, IsTask, inputs_of, item_size, outputs_of, need_of}
+use Rattle.mp_system.specs.System.{TaskSystem, IsTask, inputs_of, item_size, outputs_of}
 use Rattle.mp_system.specs.Memory.{state_memory, stands_in}
 use Rattle.fences.specs.declared.fenced.Fence.{Fence}
 use Rattle.fences.specs.Moments.{numbers_of}
+use Rattle.fencing.specs.Needs.{taken_need}
 use Rattle.fencing.specs.declared.ledger.Piece.{Piece}
 use Rattle.fencing.specs.declared.ledger.Taking.{Taking}
 
@@ -103,16 +104,16 @@ pub record GoesForward (order : List ℕ) (taking : Taking) : Type 0 where
 
 -- what a task draws from the start is what it does not take of others, once it has run
 abbrev pub draws_of : TaskSystem → List ℕ → List Taking → ℕ → ℕ
-draws_of system before takings v = if stands_in before v then need_of system v - taken_by takings v else 0
+draws_of system before takings v = if stands_in before v then taken_need system v - taken_by takings v else 0
 
 -- after some first tasks of an order: what is free and what is there are the bound; each task that ran drew and took what it needs, and of what
 -- it holds at its end and does not hand on along its items no more was taken than it gave back
 pub record IsLedger (system : TaskSystem) (bound : ℕ) (before : List ℕ) (pool : ℕ) (pieces : List Piece) (takings : List Taking) : Type 0 where
   pub whole : pool + all_kept pieces + state_memory system (stands_in before) ≡ bound
   pub drawn : state_memory system (λ _. false) + sum_by (draws_of system before takings) (numbers_of system) + pool ≡ bound
-  pub taken : (v : ℕ) → taken_by takings v ≤ (if stands_in before v then need_of system v else 0)
+  pub taken : (v : ℕ) → taken_by takings v ≤ (if stands_in before v then taken_need system v else 0)
   pub given : (v : ℕ) → kept_of pieces v + taken_from takings v
-      ≤ (if stands_in before v then inputs_of system v + need_of system v - outputs_of system v else 0)
+      ≤ (if stands_in before v then inputs_of system v + taken_need system v - outputs_of system v else 0)
   pub forward : All (GoesForward before) takings
   pub carried : All (IsCarried system.items) takings
   pub solid : All (λ taking. 1 ≤ taking.amount) takings
@@ -121,13 +122,14 @@ pub record IsLedger (system : TaskSystem) (bound : ℕ) (before : List ℕ) (poo
 
 -- after all of them
 pub record AreTakings (system : TaskSystem) (order : List ℕ) (bound : ℕ) (takings : List Taking) : Type 0 where
-  pub drawn : state_memory system (λ _. false) + sum_by (λ v. need_of system v - taken_by takings v) (numbers_of system) ≤ bound
-  pub taken : (v : ℕ) → IsTask system v → taken_by takings v ≤ need_of system v
-  pub given : (v : ℕ) → IsTask system v → taken_from takings v ≤ inputs_of system v + need_of system v - outputs_of system v
+  pub drawn : state_memory system (λ _. false) + sum_by (λ v. taken_need system v - taken_by takings v) (numbers_of system) ≤ bound
+  pub taken : (v : ℕ) → IsTask system v → taken_by takings v ≤ taken_need system v
+  pub given : (v : ℕ) → IsTask system v → taken_from takings v ≤ inputs_of system v + taken_need system v - outputs_of system v
   pub forward : All (GoesForward order) takings
   pub carried : All (IsCarried system.items) takings
+  pub solid : All (λ taking. 1 ≤ taking.amount) takings
   pub few : fences_among takings ≤ 2 * length system.tasks
-  pub none : state_memory system (λ _. false) + sum_by (need_of system) (numbers_of system) ≤ bound → fences_among takings ≡ 0
+  pub none : state_memory system (λ _. false) + sum_by (taken_need system) (numbers_of system) ≤ bound → fences_among takings ≡ 0
 
 -- the amounts of the items, with what is taken along them
 abbrev pub raised_at : Option ℕ → ℕ → List ℕ → List ℕ

@@ -1,12 +1,14 @@
 //! Memory that is handed on along an order.
 
 ghost use Rattle.std.specs.Prelude.{◌≡◌, ℕ, ◌+◌, ◌<◌, ◌≤◌, All, None, length, IfOk};
+ghost use Rattle.limits.specs.Limits.{most_total};
 ghost use Rattle.row_table.specs.Rows.{row_at};
 ghost use Rattle.mp_system.specs.System.{IsTask};
 ghost use Rattle.mp_system.specs.Memory.{peak_of, running_memory};
 ghost use Rattle.mp_system.specs.Replay.{has_run};
 ghost use Rattle.mp_system.specs.Step.{AddsTask};
 ghost use Rattle.mp_system.specs.Traversal.{IsTraversal, fault_of};
+ghost use Rattle.fences.specs.Workers.{relieved};
 ghost use Rattle.fencing.specs.Takings.{AreTakings, IsInputAt};
 
 use crate::NoMemory;
@@ -45,16 +47,53 @@ fn run(replay: &mut Replay, system: &System, task: u32) -> u64
     }
 }
 
-/// What each task of a traversal takes of what others gave back, where all that is free at the start is what the bound leaves.
+/// The most that a task of a traversal needs.
+pub fn greatest_need(alloc: Global, system: &System, order: &[u32]) -> Result<u64, NoMemory>
+    requires { IsTraversal system.now order.now }
+    ensures { IfOk result (λ need. need ≤ most_total) }
+{
+    system.keeps();
+    let mut replay = Replay::new(alloc, system)?;
+    let mut greatest: u64 = 0;
+    for task in order {
+        let before = replay.memory();
+        let running = run(&mut replay, system, *task);
+        greatest = greatest.max(running - before);
+    }
+    Ok(greatest)
+}
+
+/// The peak of a traversal where each task needs less by the room of its worker.
+pub fn relieved_peak(
+    alloc: Global,
+    system: &System,
+    order: &[u32],
+    room: u64,
+) -> Result<u64, NoMemory>
+    requires traversal { IsTraversal system.now order.now }
+    ensures { IfOk result (λ peak. peak ≡ peak_of (relieved room system.now) order.now) }
+{
+    let mut replay = Replay::new(alloc, system)?;
+    let mut peak = replay.memory();
+    for task in order {
+        let running = run(&mut replay, system, *task);
+        peak = peak.max(running.saturating_sub(room)).max(replay.memory());
+    }
+    Ok(peak)
+}
+
+/// What each task of a traversal takes of what others gave back, where each needs less by the room of its worker, and all that is free at the
+/// start is what the bound leaves.
 pub fn takings_along(
     alloc: Global,
     system: &System,
     order: &[u32],
+    room: u64,
     bound: u64,
 ) -> Result<Vec<Taking>, NoMemory>
     requires traversal { IsTraversal system.now order.now }
-    requires bound { peak_of system.now order.now ≤ bound }
-    ensures { IfOk result (λ takings. AreTakings system.now order.now bound takings.items) }
+    requires bound { peak_of (relieved room system.now) order.now ≤ bound }
+    ensures { IfOk result (λ takings. AreTakings (relieved room system.now) order.now bound takings.items) }
 {
     peak_law();
     ready_law();
@@ -67,8 +106,11 @@ pub fn takings_along(
     for task in order {
         let before = replay.memory();
         let running = run(&mut replay, system, *task);
-        ledger.take(system.items(), rows.row(*task), *task, running - before)?;
-        ledger.give(*task, running - replay.memory())?;
+        let after = replay.memory();
+        let need = (running - before).saturating_sub(room);
+        let taken = need.max(after.saturating_sub(before));
+        ledger.take(system.items(), rows.row(*task), *task, taken)?;
+        ledger.give(*task, before + taken - after)?;
     }
     Ok(ledger.takings)
 }

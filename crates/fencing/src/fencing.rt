@@ -7,11 +7,13 @@ ghost use Rattle.mp_system.specs.Memory.{state_memory};
 ghost use Rattle.mp_system.specs.Traversal.{IsTraversal};
 ghost use Rattle.fences.specs.Moments.{numbers_of};
 ghost use Rattle.fences.specs.JudgedFences.{Certify, with_fences};
+ghost use Rattle.fences.specs.Workers.{relieved};
+ghost use Rattle.fencing.specs.Needs.{taken_need};
 ghost use Rattle.fencing.specs.Takings.{IsCarried, amounts_for, fence_of, fences_left, handed_along, taking_amount};
 ghost use Rattle.fencing.specs.Refusal.{IsFencingRefusal};
 
 use crate::NoMemory;
-use crate::along::takings_along;
+use crate::along::{relieved_peak, takings_along};
 use crate::ledger::Taking;
 use fences::Fence;
 use limits::MOST_POSITIONS;
@@ -33,7 +35,7 @@ pub struct Fencing {
 pub enum FencingRefusal {
     /// The order is no traversal: its first fault.
     Order(OrderFault),
-    /// The order's peak is above the bound.
+    /// The order's peak, where each task needs less by the room of its worker, is above the bound.
     Bound { peak: u64 },
     /// There would be more items and fences together than the limit `positions`. It does not come where the items and twice the tasks are within
     /// that limit, as they are where the items are the arcs of a task graph.
@@ -114,7 +116,10 @@ fn fences_of(alloc: Global, takings: &[Taking]) -> Result<Vec<Fence>, NoMemory>
 /// Fences along a traversal, and amounts, with which no parallel run uses more than the bound, as `judge_fences` judges it: whatever starts the
 /// tasks, on however many workers, and however long they take. The order passes the fences, so no run comes to a stop. There are fences for each
 /// bound from the order's peak on, at most two for each task, and none where the bound has room for what all tasks need together. Sizes, amounts,
-/// peaks and the bound have one unit. Linear in the tasks and items.
+/// peaks, the room and the bound have one unit. Linear in the tasks and items.
+///
+/// On at most so many workers, room may be set aside for each of them, beside the bound: each task then needs less by that room, and so fewer
+/// fences are enough. The peak that the bound has to reach is the one with these needs. Without it the room is 0.
 ///
 /// What the bound leaves at the start is a pool. A task that comes next takes what it needs first of what its suppliers gave back, which is handed
 /// on along the items and needs no fence; then out of the pool, as long as there is something, which needs none either; and then of what other
@@ -123,22 +128,25 @@ pub fn fence_along(
     alloc: Global,
     system: &System,
     order: &[u32],
+    room: u64,
     bound: u64,
 ) -> Result<Fencing, FencingRefusal>
-    ensures certified { IfOk result (λ f. Certify system.now f.fences.items f.amounts.items bound) }
+    ensures certified { IfOk result (λ f. Certify (relieved room system.now) f.fences.items f.amounts.items bound) }
     ensures passed { IfOk result (λ f. IsTraversal (with_fences system.now f.fences.items) order.now) }
     ensures few { IfOk result (λ f. length f.fences.items ≤ 2 * length system.now.tasks) }
     ensures none { IfOk result (λ f. state_memory system.now (λ _. false) + sum_by (need_of system.now) (numbers_of system.now) ≤ bound →
         f.fences.items ≡ []) }
-    ensures refused { IfErr result (IsFencingRefusal system.now order.now bound) }
+    ensures needy { IfOk result (λ f. All (λ fence. 1 ≤ taken_need (relieved room system.now) fence.to) f.fences.items) }
+    ensures refused { IfErr result (IsFencingRefusal (relieved room system.now) order.now bound) }
 {
     traversal_law();
     system.keeps();
-    let peak = replay(alloc, system, order)?;
+    replay(alloc, system, order)?;
+    let peak = relieved_peak(alloc, system, order, room)?;
     if peak > bound {
         return Err(FencingRefusal::Bound { peak });
     }
-    let takings = takings_along(alloc, system, order, bound)?;
+    let takings = takings_along(alloc, system, order, room, bound)?;
     let fences = fences_of(alloc, &takings)?;
     if system.items().len() + fences.len() > MOST_POSITIONS as usize {
         return Err(FencingRefusal::ManyFences);

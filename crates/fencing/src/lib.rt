@@ -7,14 +7,24 @@
 //! Marchal, B. Simon and F. Vivien, "Limiting the memory footprint when dynamically scheduling DAGs on shared-memory platforms", 2018, who add
 //! fences across the greatest cuts of a flow.
 //!
-//! The definitions stand in specs/: `Refusal`, what an order and a bound are refused with, and `Takings`, how memory is handed on; what fences and
-//! amounts are, in `fences`.
+//! [`certificate_along`] does so for a shared system, and makes what is handed to others: the fences with all that certifies them, for any number
+//! of workers or for at most so many. For these, room is set aside for each, and the fences that are left are fewer.
+//! A search looks for better fences there: it promises nothing, and what it finds is judged.
+//!
+//! The definitions stand in specs/: `Refusal`, what an order and a bound are refused with; `Asked`, for how many workers; `Needs`, what a task
+//! takes, `Takings`, how memory is handed on, and `Rooms`; what fences, amounts and certificates are, in `fences`.
 #![tactic(auto)]
 
 mod along;
+mod certificate;
+mod chain;
+mod choosing;
 mod fencing;
 mod ledger;
+mod network;
+mod rooms;
 
+pub use certificate::{CertifyingRefusal, certificate_along};
 pub use fencing::{Fencing, FencingRefusal, fence_along};
 use std::alloc::AllocError;
 

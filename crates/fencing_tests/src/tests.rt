@@ -1,5 +1,7 @@
 //! Fences along orders. The fences, the amounts and what they certify are worked by hand, and `judge_fences` judges them besides.
 
+mod certificates;
+
 use fences::{Fence, judge_fences};
 use fencing::{FencingRefusal, fence_along};
 use mp_system::{GivenItem, GivenTask, OrderFault, OrderKind, System, system_of_arrays};
@@ -44,8 +46,8 @@ fn are(fences: &[Fence], pairs: &[(u32, u32)]) -> bool {
 // Whether such fences and amounts are made, and certify that.
 fn makes(alloc: Global, system: &System, row: &Fenced) -> Result<bool, Fail> {
     let (order, bound, fences, amounts, certified) = *row;
-    let made = fence_along(alloc, system, order, bound)?;
-    let judged = judge_fences(alloc, system, &made.fences, &made.amounts, bound)?;
+    let made = fence_along(alloc, system, order, 0, bound)?;
+    let judged = judge_fences(alloc, system, &made.fences, &made.amounts, 0, bound)?;
     Ok(are(&made.fences, fences) && &made.amounts[..] == amounts && judged == certified)
 }
 
@@ -180,6 +182,21 @@ fn a_fork(rt: HostRuntime) -> Result<(), Fail> {
     Ok(())
 }
 
+// 3 waits for 1 by way of 2 alone, and 2 gives nothing back: a fence, though 3 comes after 1 anyway.
+const OF_LINE: &[Fenced] = &[(&[1, 2, 3], 10, &[(1, 3)], &[0, 0, 10], 10)];
+
+#[test]
+fn a_line(rt: HostRuntime) -> Result<(), Fail> {
+    let alloc = rt.alloc();
+    let tasks = [task(10, 0), task(0, 0), task(10, 0)];
+    let items = [item(0, 1, 2), item(0, 2, 3)];
+    let line = system_of_arrays(alloc, &tasks, &items)?;
+    for row in OF_LINE {
+        assert!(rt; makes(alloc, &line, row)?);
+    }
+    Ok(())
+}
+
 // Blocks of 7 and 2 that are there from the start, which two tasks take up that need 1 and 4 beside, and one of 3 that stays.
 const OF_STOCKED: &[Fenced] = &[
     (&[1, 2], 13, &[(1, 2)], &[7, 2, 3, 4], 13),
@@ -218,6 +235,48 @@ fn shares(rt: HostRuntime) -> Result<(), Fail> {
     Ok(())
 }
 
+// An order, the room of a worker, a bound, the fences, and the amounts of the items and of the fences.
+type Roomy = (
+    &'static [u32],
+    u64,
+    u64,
+    &'static [(u32, u32)],
+    &'static [u64],
+);
+
+// Each child takes 10 less the room, and at least the 1 that it leaves: with a room of 9 and more one after the other needs no more than both.
+const OF_ROOMS: &[Roomy] = &[
+    (&[1, 2, 3], 4, 7, &[(1, 2)], &[1, 1, 5]),
+    (&[1, 2, 3], 4, 12, &[], &[1, 1]),
+    (&[1, 2, 3], 9, 2, &[], &[1, 1]),
+    (&[1, 2, 3], 100, 2, &[], &[1, 1]),
+];
+
+#[test]
+fn room_for_each_worker(rt: HostRuntime) -> Result<(), Fail> {
+    let alloc = rt.alloc();
+    let pair = pair(alloc)?;
+    for row in OF_ROOMS {
+        let (order, room, bound, fences, amounts) = *row;
+        let made = fence_along(alloc, &pair, order, room, bound)?;
+        assert!(rt; are(&made.fences, fences));
+        assert!(rt; &made.amounts[..] == amounts);
+    }
+    Ok(())
+}
+
+#[test]
+fn room_that_leaves_too_little(rt: HostRuntime) -> Result<(), Fail> {
+    let alloc = rt.alloc();
+    let pair = pair(alloc)?;
+    let rows: [(u64, u64, u64); 4] = [(0, 10, 11), (4, 6, 7), (9, 1, 2), (100, 1, 2)];
+    for (room, bound, peak) in rows {
+        let made = fence_along(alloc, &pair, &[1, 2, 3], room, bound);
+        assert!(rt; made.err() == Some(FencingRefusal::Bound { peak }));
+    }
+    Ok(())
+}
+
 #[test]
 fn orders_and_bounds_that_are_refused(rt: HostRuntime) -> Result<(), Fail> {
     let alloc = rt.alloc();
@@ -235,7 +294,7 @@ fn orders_and_bounds_that_are_refused(rt: HostRuntime) -> Result<(), Fail> {
         (&[1, 2, 3, 3], 20, fault(4, OrderKind::Repeated)),
     ];
     for (order, bound, refusal) in rows {
-        let made = fence_along(alloc, &pair, order, bound);
+        let made = fence_along(alloc, &pair, order, 0, bound);
         assert!(rt; made.err() == Some(refusal));
     }
     Ok(())
