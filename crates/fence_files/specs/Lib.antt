@@ -1,0 +1,5 @@
+pub mod FenceFile
+pub mod Kinds
+pub mod Printed
+pub mod Reader
+pub mod Samples

@@ -1,0 +1,5 @@
+//! Tests of `fence_files`, over its public functions.
+#![tactic(auto)]
+
+#[cfg(test)]
+mod tests;
