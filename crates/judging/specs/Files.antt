@@ -25,6 +25,9 @@ use Rattle.plans.specs.Plan.{PlanValue}
 use Rattle.plan_files.specs.PlanFile.{ReadsPlan, RefusesPlan}
 use Rattle.bounded_plans.specs.BoundedPlan.{BoundedPlanValue}
 use Rattle.bounded_plan_files.specs.BoundedPlanFile.{ReadsBoundedPlan, RefusesBoundedPlan}
+use Rattle.fences.specs.Certificates.{Certificate}
+use Rattle.fence_files.specs.FenceFile.{ReadsFences, RefusesFences}
+use Rattle.fence_files.specs.Kinds.{word_of as fence_word}
 use Rattle.symbolic.specs.FrontTree.{IsFrontTree}
 use Rattle.graphs.specs.Graph.{TaskGraph}
 use Rattle.graph_files.specs.GraphFile.{ReadsGraph}
@@ -39,7 +42,7 @@ use Rattle.requests.specs.Request.{Ordering, natural, min_degree, perm_named, Ma
 use Rattle.requests.specs.Request.{TaskSource, input_tasks, graph_tasks, shared_graph_file}
 use Rattle.requests.specs.Request.{workflow_named, OrderSource, order_named, plan_named, FileRole, tree_file, workflow_file}
 use Rattle.requests.specs.Request.{matrix_file, perm_file, order_file, plan_file, bounded_plan_file, priority_file, plan_priority_file}
-use Rattle.requests.specs.Request.{NamedFile}
+use Rattle.requests.specs.Request.{NamedFile, fence_file}
 use Rattle.workflow_files.specs.Kinds.{word_of as workflow_word}
 use Rattle.matrix_files.specs.OrderKinds.{perm_word, order_file_word}
 use Rattle.plan_files.specs.Kinds.{word_of as plan_word}
@@ -126,6 +129,10 @@ IsPlanFile text plan = IsWithinBytes text × ReadsPlan text plan
 -- a plan of version 3
 abbrev pub IsBoundedPlanFile : List ℕ → BoundedPlanValue → Type 0
 IsBoundedPlanFile text plan = IsWithinBytes text × ReadsBoundedPlan text plan
+
+-- fences, with the amounts that are to certify their bound
+abbrev pub IsFencesFile : List ℕ → Certificate → Type 0
+IsFencesFile text certificate = IsWithinBytes text × ReadsFences text certificate
 
 -- a matrix of n rows can be eliminated in this order: by minimum degree only up to a limit
 abbrev pub HasOrdering : Ordering → ℕ → Type 0
@@ -245,6 +252,7 @@ IsRefusedInRole perm_file earlier text answer = IsRefusedPerm earlier text answe
 IsRefusedInRole order_file earlier text answer = IsRefusedFile (codes "order") order_file_word (RefusesOrder text) text answer
 IsRefusedInRole plan_file earlier text answer = IsRefusedFile (codes "plan") plan_word (RefusesPlan text) text answer
 IsRefusedInRole bounded_plan_file earlier text answer = IsRefusedFile (codes "plan") plan_word (RefusesBoundedPlan text) text answer
+IsRefusedInRole fence_file earlier text answer = IsRefusedFile (codes "fences") fence_word (RefusesFences text) text answer
 IsRefusedInRole (priority_file tasks) earlier text answer = IsRefusedPriority tasks earlier text answer
 IsRefusedInRole plan_priority_file earlier text answer = IsRefusedPlanPriority earlier text answer
 
@@ -258,6 +266,7 @@ HasValue perm_file earlier text = IsAcceptedPerm earlier text
 HasValue order_file earlier text = (numbers : List ℕ) × IsOrderFile text numbers
 HasValue plan_file earlier text = (plan : PlanValue) × IsPlanFile text plan
 HasValue bounded_plan_file earlier text = (plan : BoundedPlanValue) × IsBoundedPlanFile text plan
+HasValue fence_file earlier text = (certificate : Certificate) × IsFencesFile text certificate
 HasValue (priority_file tasks) earlier text = IsAcceptedPriority tasks earlier text
 HasValue plan_priority_file earlier text = IsAcceptedPlanPriority earlier text
 

@@ -9,6 +9,7 @@ ghost use Rattle.matrix_files.specs.OrderFile.{ReadsOrder, RefusesOrder};
 ghost use Rattle.matrix_files.specs.PermFile.{ReadsPerm, RefusesPerm};
 ghost use Rattle.plan_files.specs.PlanFile.{ReadsPlan, RefusesPlan};
 ghost use Rattle.bounded_plan_files.specs.BoundedPlanFile.{ReadsBoundedPlan, RefusesBoundedPlan};
+ghost use Rattle.fence_files.specs.FenceFile.{ReadsFences, RefusesFences};
 ghost use Rattle.workflow_files.specs.WorkflowFile.{ReadsWorkflow, RefusesWorkflow};
 ghost use Rattle.shared_graph_files.specs.EitherVersion.{StatesEither, ReadsSharedGraph, RefusesSharedGraph};
 ghost use Rattle.tree_files.specs.TreeFile.{ReadsTree, RefusesTree};
@@ -19,6 +20,8 @@ use crate::page::{format_page, limit_page};
 use crate::stop::Stop;
 use bounded_plan_files::read_bounded_plan;
 use bounded_plans::BoundedPlan;
+use fence_files::{FenceKind, read_fences};
+use fences::FenceCertificate;
 use graph_files::GraphKind;
 use limits::LimitName;
 use matrix_files::{MatrixKind, OrderFileKind, PermKind, read_order, read_pattern, read_perm};
@@ -341,5 +344,29 @@ impl FileKind for BoundedPlanFile {
 
     fn read(&self, alloc: Global, text: Vec<u8>) -> Result<BoundedPlan, Refusal<PlanKind>> {
         read_bounded_plan(alloc, &text)
+    }
+}
+
+/// A file of fences.
+#[derive(Clone, Copy, Debug)]
+pub struct FencesFile;
+
+impl FileKind for FencesFile {
+    type Value = FenceCertificate;
+
+    type Kind = FenceKind;
+
+    ghost file_word = { λ _. codes "fences" };
+
+    ghost reads = { λ _. ReadsFences };
+
+    ghost refuses = { λ _. RefusesFences };
+
+    fn word(&self) -> &'static str {
+        "fences"
+    }
+
+    fn read(&self, alloc: Global, text: Vec<u8>) -> Result<FenceCertificate, Refusal<FenceKind>> {
+        read_fences(alloc, &text)
     }
 }

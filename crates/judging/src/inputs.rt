@@ -199,6 +199,16 @@ impl Tasks {
         }
     }
 
+    /// The tasks as a shared system. Linear; a graph's is handed over as it is.
+    pub fn into_shared(self, alloc: Global) -> Result<SharedSystem, AllocError>
+        ensures { IfOk result (λ system. system ≡ system_of_tasks self) }
+    {
+        match self {
+            Tasks::Problem(problem) => problem.shared(alloc),
+            Tasks::Graph(system) => Ok(system),
+        }
+    }
+
     /// The core that runs the tasks on 1 to 4,096 workers within a bound on memory, activated in an order. Refused are an order that is
     /// no traversal, and a bound below its peak.
     pub fn core(

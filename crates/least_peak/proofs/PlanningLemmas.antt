@@ -22,7 +22,7 @@ use Rattle.least_peak.specs.Named.{IsNamedBy, IsNamedTerm, order_named}
 
 -- ---- an order under the names of a system
 
-abbrev Traversals : Type 0
+abbrev pub Traversals : Type 0
 Traversals = (names : List ℕ) (own named : TaskSystem) (order : List ℕ)
     → IsRenamed names own named → IsTraversal own order ↔ IsTraversal named (map (name_in names) order)
 

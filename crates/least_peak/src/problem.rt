@@ -12,6 +12,7 @@ ghost use Rattle.claim_check.specs.Verdicts.{IsVerdict};
 ghost use Rattle.claim_check.specs.declared.verdict.Verdict.TheVariants.{Yes};
 ghost use Rattle.activation.specs.Machine.{IsSetting, start_state};
 ghost use Rattle.activation.specs.Refusal.{IsCoreRefusal};
+ghost use Rattle.shared_systems.specs.Bounds.{IsSharedSystem};
 ghost use Rattle.shared_systems.specs.OneReader.{shared_of};
 ghost use Rattle.least_peak.specs.Best.{IsBestTraversal};
 ghost use Rattle.least_peak.specs.Problem.{system_of, IsTermOf};
@@ -23,8 +24,12 @@ use activation::{Core, CoreRefusal};
 use claim_check::laws::accepted_law;
 use claim_check::{Verdict, check, check_alone};
 use mp_outside::Gate;
+use mp_system::laws::renaming_law;
 use mp_system::{ReplayRefusal, System, replay};
 use plans::Plan;
+use shared_systems::SharedSystem;
+use shared_systems::laws::one_reader_system_law;
+use sp_term_laws::laws::value_law;
 use sp_terms::laws::terms_law;
 use sp_terms::{Position, TermList, system_of};
 use std::alloc::Global;
@@ -99,6 +104,32 @@ impl Problem {
             Origin::Tree(tree) => system_of_tree(alloc, tree),
             Origin::Workflow(terms) => system_of(alloc, terms),
         }
+    }
+
+    // All tasks can be ordered, so that the system is within the limits of shared systems too. It does nothing.
+    fn keeps(&self)
+        ensures { IsSharedSystem (shared_of (system_of self.now)) }
+    {
+        forest_law();
+        tree_system();
+        tree_term();
+        terms_law();
+        value_law();
+        renaming_law();
+        one_reader_system_law();
+        match &self.origin {
+            Origin::Tree(tree) => tree.keeps(),
+            Origin::Workflow(terms) => terms.keeps(),
+        }
+    }
+
+    /// The tasks as a shared system, in which each item has at most one reader. `NoMemory` says nothing of the problem. Linear.
+    pub fn shared(&self, alloc: Global) -> Result<SharedSystem, NoMemory>
+        ensures { IfOk result (λ system. system ≡ shared_of (system_of self.now)) }
+    {
+        self.keeps();
+        let system = self.system(alloc)?;
+        SharedSystem::of_system(alloc, &system)
     }
 
     /// The number of tasks, from 0 to the limit `tasks`. It takes no memory. Linear in the positions of a workflow.
