@@ -51,6 +51,7 @@ INPLACE = Option("inplace", "no|yes", "with yes a front is assembled in the plac
 ORDER = Option("order", FILE, "an order file: the numbers of the tasks, in order, from 1")
 PLAN = Option("plan", FILE, "a plan file, as `plan` prints it; its order is taken")
 JUDGED = Option("plan", FILE, "the plan file that is judged")
+FENCES = Option("fences", FILE, "the fence file that is judged, as `fence` prints it")
 PRIORITY = Option("priority", FILE, "a ranking of the tasks: of those that may start, the first of it is started")
 BOUND = Option("bound", "B", "the memory that there is, in the units of the input")
 WORKERS = Option("workers", "W", "how many workers, 1 to 4096", 1, 4096)
@@ -73,7 +74,7 @@ OF_A_MATRIX = tuple((option.name, "matrix") for option in FRONT_OPTIONS)
 # How a run ends: what is written, and where to look.
 STATUSES: Dict[int, str] = {
     0: "done; the report is on standard output",
-    1: "the order is no traversal, or the plan is not accepted; a line says why",
+    1: "the order is no traversal, or the plan or the fences are not accepted; a line says why",
     2: "usage: the words are no command with its options; nothing is printed",
     3: "a file is not of its format: `refused format FILE KIND LINE`",
     4: "a file passes a limit: `refused limit FILE NAME`",
@@ -108,14 +109,15 @@ COMMANDS: Tuple[Command, ...] = (
     ),
     Command(
         name="check",
-        purpose="the verdict on a plan, whoever made it",
-        usage="(INPUT | --graph FILE) --plan FILE [--workers W]",
-        options=(*INPUT, GRAPH, JUDGED, Option("workers", "W", "how many threads share the work, 1 to 4096; 1 without it", 1, 4096)),
-        one_of=("tree|workflow|matrix|graph", "plan"),
-        only_with=OF_A_MATRIX,
+        purpose="the verdict on a plan, or on fences, whoever made them",
+        usage="(INPUT | --graph FILE) (--plan FILE [--workers W] | --fences FILE)",
+        options=(*INPUT, GRAPH, JUDGED, Option("workers", "W", "how many threads share the work, 1 to 4096; 1 without it", 1, 4096), FENCES),
+        one_of=("tree|workflow|matrix|graph", "plan|fences"),
+        only_with=(*OF_A_MATRIX, ("workers", "plan")),
         prints="`yes PEAK`, or the first objection. The options of the input have to be those that the plan was made with. "
-        "Of a task graph, whose plan has a bound (version 3), `yes PEAK least` or `yes PEAK above BOUND`",
-        statuses={1: "the plan is not accepted"},
+        "Of a task graph, whose plan has a bound (version 3), `yes PEAK least` or `yes PEAK above BOUND`. "
+        "Of fences `yes BOUND`: no run that keeps to them, on as many workers as they are for, uses more, and none comes to a stop",
+        statuses={1: "the plan is not accepted, or the fences are not"},
         example=("check --tree examples/five.tree --plan examples/five.plan", "yes 11"),
     ),
     Command(
@@ -181,6 +183,26 @@ COMMANDS: Tuple[Command, ...] = (
         prints="`makespan T`, `used U`, `booked B`, `events E`, a line for each event, `end`",
         statuses={1: NO_TRAVERSAL, 5: "the bound is below the peak of the order"},
         example=("simulate --tree examples/five.tree --order examples/five.order --bound 11 --workers 2 | head -n 2", "makespan 5\nused 11"),
+    ),
+    Command(
+        name="fence",
+        purpose="fences that keep every parallel run within a bound on memory",
+        usage="(INPUT | --graph FILE) (--order FILE | --plan FILE) --bound B [--workers W]",
+        options=(
+            *INPUT,
+            GRAPH,
+            ORDER,
+            PLAN,
+            BOUND,
+            Option("workers", "W", "for runs on at most W workers, 1 to 4096; on any number of them without it", 1, 4096),
+        ),
+        one_of=("tree|workflow|matrix|graph", "order|plan", "bound"),
+        only_with=OF_A_MATRIX,
+        prints="a fence file: each fence is a line `FROM TO`, by which task TO waits for task FROM, or for all readers of an item. From its amounts "
+        "follows that no run on so many workers that keeps to the fences passes the bound, whatever starts the tasks, and however long they take; "
+        "and none comes to a stop",
+        statuses={1: NO_TRAVERSAL, 5: "the bound is below the peak of the order"},
+        example=("fence --tree examples/five.tree --order examples/five.order --bound 16 | head -n 2", "fences 1\nbound 16"),
     ),
     Command(
         name="spill",

@@ -1,13 +1,14 @@
 # Sourced by tools/terminal.sh, and by nothing else. Made by tools/make_help.py of tools/commands.py.
-commands="plan check replay post tree fronts simulate spill segments reduce bound upgrade demo"
+commands="plan check replay post tree fronts simulate fence spill segments reduce bound upgrade demo"
 declare -A usage_of=(
     [plan]='[--print text|json] (INPUT | --graph FILE [--order FILE] [--effort E])'
-    [check]='(INPUT | --graph FILE) --plan FILE [--workers W]'
+    [check]='(INPUT | --graph FILE) (--plan FILE [--workers W] | --fences FILE)'
     [replay]='(INPUT | --graph FILE) (--order FILE | --plan FILE)'
     [post]=TREE
     [tree]=MATRIX
     [fronts]='--matrix FILE [--perm FILE | --ordering natural|mindeg] --bound B --workers W'
     [simulate]='(INPUT | --graph FILE) (--order FILE | --plan FILE) --bound B --workers W [--priority FILE]'
+    [fence]='(INPUT | --graph FILE) (--order FILE | --plan FILE) --bound B [--workers W]'
     [spill]='(INPUT | --graph FILE) (--order FILE | --plan FILE) --bound B'
     [segments]=INPUT
     [reduce]='--graph FILE'
@@ -17,12 +18,13 @@ declare -A usage_of=(
 )
 declare -A options_of=(
     [plan]='tree workflow matrix perm ordering shape amalgamate inplace graph order effort print'
-    [check]='tree workflow matrix perm ordering shape amalgamate inplace graph plan workers'
+    [check]='tree workflow matrix perm ordering shape amalgamate inplace graph plan workers fences'
     [replay]='tree workflow matrix perm ordering shape amalgamate inplace graph order plan'
     [post]='tree matrix perm ordering shape amalgamate inplace'
     [tree]='matrix perm ordering shape amalgamate inplace'
     [fronts]='matrix perm ordering bound workers'
     [simulate]='tree workflow matrix perm ordering shape amalgamate inplace graph order plan bound workers priority'
+    [fence]='tree workflow matrix perm ordering shape amalgamate inplace graph order plan bound workers'
     [spill]='tree workflow matrix perm ordering shape amalgamate inplace graph order plan bound'
     [segments]='tree workflow matrix perm ordering shape amalgamate inplace'
     [reduce]=graph
@@ -32,12 +34,13 @@ declare -A options_of=(
 )
 declare -A one_of=(
     [plan]='tree|workflow|matrix|graph'
-    [check]='tree|workflow|matrix|graph plan'
+    [check]='tree|workflow|matrix|graph plan|fences'
     [replay]='tree|workflow|matrix|graph order|plan'
     [post]='tree|matrix'
     [tree]=matrix
     [fronts]='matrix bound workers'
     [simulate]='tree|workflow|matrix|graph order|plan bound workers'
+    [fence]='tree|workflow|matrix|graph order|plan bound'
     [spill]='tree|workflow|matrix|graph order|plan bound'
     [segments]='tree|workflow|matrix'
     [reduce]=graph
@@ -47,12 +50,13 @@ declare -A one_of=(
 )
 declare -A only_with=(
     [plan]='perm:matrix ordering:matrix shape:matrix amalgamate:matrix inplace:matrix order:graph effort:graph'
-    [check]='perm:matrix ordering:matrix shape:matrix amalgamate:matrix inplace:matrix'
+    [check]='perm:matrix ordering:matrix shape:matrix amalgamate:matrix inplace:matrix workers:plan'
     [replay]='perm:matrix ordering:matrix shape:matrix amalgamate:matrix inplace:matrix'
     [post]='perm:matrix ordering:matrix shape:matrix amalgamate:matrix inplace:matrix'
     [tree]=''
     [fronts]=''
     [simulate]='perm:matrix ordering:matrix shape:matrix amalgamate:matrix inplace:matrix'
+    [fence]='perm:matrix ordering:matrix shape:matrix amalgamate:matrix inplace:matrix'
     [spill]='perm:matrix ordering:matrix shape:matrix amalgamate:matrix inplace:matrix'
     [segments]='perm:matrix ordering:matrix shape:matrix amalgamate:matrix inplace:matrix'
     [reduce]=''
@@ -75,6 +79,7 @@ declare -A value_of=(
     [print]='text|json'
     [plan]=FILE
     [workers]=W
+    [fences]=FILE
     [bound]=B
     [priority]=FILE
     [kind]='tree|workflow|grid'
@@ -140,9 +145,10 @@ END
             ;;
         check)
             cat <<'END'
-memplan check: the verdict on a plan, whoever made it
+memplan check: the verdict on a plan, or on fences, whoever made them
 
-usage: memplan check (INPUT | --graph FILE) --plan FILE [--workers W]
+usage: memplan check (INPUT | --graph FILE) (--plan FILE [--workers W] |
+--fences FILE)
 INPUT is TREE, or --workflow FILE
 TREE is --tree FILE, or MATRIX
 MATRIX is --matrix FILE, with at most one of --perm and --ordering, and any of
@@ -169,11 +175,13 @@ the others
   --plan FILE                the plan file that is judged
   --workers W                how many threads share the work, 1 to 4096; 1
                              without it
+  --fences FILE              the fence file that is judged, as fence prints it
 
 Prints yes PEAK, or the first objection. The options of the input have to be
 those that the plan was made with. Of a task graph, whose plan has a bound
-(version 3), yes PEAK least or yes PEAK above BOUND. Status 1: the plan is not
-accepted.
+(version 3), yes PEAK least or yes PEAK above BOUND. Of fences yes BOUND: no
+run that keeps to them, on as many workers as they are for, uses more, and none
+comes to a stop. Status 1: the plan is not accepted, or the fences are not.
 
 $ memplan check --tree examples/five.tree --plan examples/five.plan
 yes 11
@@ -366,6 +374,54 @@ makespan 5
 used 11
 END
             ;;
+        fence)
+            cat <<'END'
+memplan fence: fences that keep every parallel run within a bound on memory
+
+usage: memplan fence (INPUT | --graph FILE) (--order FILE | --plan FILE)
+--bound B [--workers W]
+INPUT is TREE, or --workflow FILE
+TREE is --tree FILE, or MATRIX
+MATRIX is --matrix FILE, with at most one of --perm and --ordering, and any of
+the others
+
+  --tree FILE                a tree file: tasks of which each leaves one block
+                             to its parent, as fronts do
+  --workflow FILE            a workflow file: series-parallel tasks and their
+                             data
+  --matrix FILE              a matrix in Matrix Market's coordinate format; its
+                             pattern is taken, made symmetric
+  --perm FILE                its rows are eliminated in this order: the k-th
+                             number is the row that goes k-th, from 1
+  --ordering natural|mindeg  in the order of the file, or by minimum degree (at
+                             most 50,000 rows)
+  --shape triangle|square    count the entries of one triangle of each front,
+                             or of both
+  --amalgamate Z             merge fronts where that adds at most Z zeros, Z up
+                             to 2^40; none without it
+  --inplace no|yes           with yes a front is assembled in the place of its
+                             greatest child's block
+  --graph FILE               a task graph file: tasks, and the data that go
+                             from one to another
+  --order FILE               an order file: the numbers of the tasks, in order,
+                             from 1
+  --plan FILE                a plan file, as plan prints it; its order is taken
+  --bound B                  the memory that there is, in the units of the
+                             input
+  --workers W                for runs on at most W workers, 1 to 4096; on any
+                             number of them without it
+
+Prints a fence file: each fence is a line FROM TO, by which task TO waits for
+task FROM, or for all readers of an item. From its amounts follows that no run
+on so many workers that keeps to the fences passes the bound, whatever starts
+the tasks, and however long they take; and none comes to a stop. Status 1: the
+order is no traversal. Status 5: the bound is below the peak of the order.
+
+$ memplan fence --tree examples/five.tree --order examples/five.order --bound 16 | head -n 2
+fences 1
+bound 16
+END
+            ;;
         spill)
             cat <<'END'
 memplan spill: the least volume that must go to disk within a bound
@@ -553,12 +609,13 @@ possible, and proves it.
 usage: memplan COMMAND OPTIONS
 
   plan      an order of least peak, its peak, and a certificate
-  check     the verdict on a plan, whoever made it
+  check     the verdict on a plan, or on fences, whoever made them
   replay    the peak of an order
   post      the best postorder of a tree, and its peak
   tree      the tree of fronts of a matrix
   fronts    the rows of every front of a matrix
   simulate  a run on several workers within a bound on memory
+  fence     fences that keep every parallel run within a bound on memory
   spill     the least volume that must go to disk within a bound
   segments  how low memory can come within each bound
   reduce    the series-parallel workflow of a task graph
@@ -574,7 +631,8 @@ a file.
 
 Statuses:
   0   done; the report is on standard output
-  1   the order is no traversal, or the plan is not accepted; a line says why
+  1   the order is no traversal, or the plan or the fences are not accepted; a
+      line says why
   2   usage: the words are no command with its options; nothing is printed
   3   a file is not of its format: refused format FILE KIND LINE
   4   a file passes a limit: refused limit FILE NAME

@@ -17,7 +17,7 @@ from commands import COMMANDS, FILE, INPUT, INPUTS, STATUSES, Command, Option  #
 
 ROOT = Path(__file__).resolve().parent.parent
 MADE = "Made by tools/make_help.py of tools/commands.py."
-DATE = "2026-11-30"  # of the man page: when the commands changed last
+DATE = "2026-12-01"  # of the man page: when the commands changed last
 ABOUT = "memplan orders tasks so that their temporary data needs as little memory as possible, and proves it."
 WORDS = (
     "The command comes first, then its options in any order, each at most once: `--name value`, or `--name=value`. "

@@ -12,7 +12,7 @@ _memplan() {
         --inplace) words="no yes" ;;
         --print) words="text json" ;;
         --kind) words="tree workflow grid" ;;
-        --tree | --workflow | --matrix | --perm | --graph | --order | --plan | --priority)
+        --tree | --workflow | --matrix | --perm | --graph | --order | --plan | --fences | --priority)
             compopt -o filenames 2>/dev/null
             mapfile -t COMPREPLY < <(compgen -f -- "$word")
             return
@@ -21,12 +21,13 @@ _memplan() {
         *)
             case ${COMP_WORDS[1]} in
                 plan) words="--tree --workflow --matrix --perm --ordering --shape --amalgamate --inplace --graph --order --effort --print" ;;
-                check) words="--tree --workflow --matrix --perm --ordering --shape --amalgamate --inplace --graph --plan --workers" ;;
+                check) words="--tree --workflow --matrix --perm --ordering --shape --amalgamate --inplace --graph --plan --workers --fences" ;;
                 replay) words="--tree --workflow --matrix --perm --ordering --shape --amalgamate --inplace --graph --order --plan" ;;
                 post) words="--tree --matrix --perm --ordering --shape --amalgamate --inplace" ;;
                 tree) words="--matrix --perm --ordering --shape --amalgamate --inplace" ;;
                 fronts) words="--matrix --perm --ordering --bound --workers" ;;
                 simulate) words="--tree --workflow --matrix --perm --ordering --shape --amalgamate --inplace --graph --order --plan --bound --workers --priority" ;;
+                fence) words="--tree --workflow --matrix --perm --ordering --shape --amalgamate --inplace --graph --order --plan --bound --workers" ;;
                 spill) words="--tree --workflow --matrix --perm --ordering --shape --amalgamate --inplace --graph --order --plan --bound" ;;
                 segments) words="--tree --workflow --matrix --perm --ordering --shape --amalgamate --inplace" ;;
                 reduce) words="--graph" ;;
@@ -34,7 +35,7 @@ _memplan() {
                 upgrade) words="--tree --workflow --graph --plan --priority" ;;
                 demo) words="--kind --seed --tasks --rows --cols" ;;
             esac
-            [ "$COMP_CWORD" -gt 1 ] || words="plan check replay post tree fronts simulate spill segments reduce bound upgrade demo"
+            [ "$COMP_CWORD" -gt 1 ] || words="plan check replay post tree fronts simulate fence spill segments reduce bound upgrade demo"
             # each option once
             for option in "${COMP_WORDS[@]:2}"; do
                 [ "$option" = "$word" ] || words=" $words " words=${words/ $option / }

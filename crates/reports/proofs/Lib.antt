@@ -1,6 +1,7 @@
 pub mod BoundLemmas
 pub mod GraphPlanLemmas
 pub mod DemoLemmas
+pub mod FenceLemmas
 pub mod FrontLemmas
 pub mod OneFile
 pub mod OneInput
@@ -16,3 +17,4 @@ pub mod SpillLemmas
 pub mod StairPages
 pub mod StairsLemmas
 pub mod UpgradeLemmas
+pub mod SharedTasks

@@ -13,6 +13,8 @@ use Rattle.plan_files.specs.Kinds.{word_of as plan_word}
 use Rattle.plans.specs.Plan.{PlanValue}
 use Rattle.plan_files.specs.PlanFile.{ReadsPlan, RefusesPlan}
 use Rattle.bounded_plan_files.specs.BoundedPlanFile.{ReadsBoundedPlan, RefusesBoundedPlan}
+use Rattle.fence_files.specs.FenceFile.{ReadsFences, RefusesFences}
+use Rattle.fence_files.specs.Kinds.{word_of as fence_word}
 use Rattle.workflow_files.specs.Kinds.{word_of as workflow_word}
 use Rattle.workflow_files.specs.WorkflowFile.{ReadsWorkflow, RefusesWorkflow}
 use Rattle.graph_files.specs.Kinds.{word_of as graph_word}
@@ -23,7 +25,7 @@ use Rattle.judging.specs.Files.{Answer, IsMatrixFile, HasOrdering, IsTooLarge, I
 use Rattle.judging.specs.Files.{IsRefusedFile, HasValue, IsRefusedInRole, IsTaskSystemOf, IsPlanFile}
 use Rattle.requests.specs.Request.{Ordering, natural, min_degree, perm_named, TaskSource, FileRole, tree_file, workflow_file}
 use Rattle.requests.specs.Request.{shared_graph_file}
-use Rattle.requests.specs.Request.{matrix_file, perm_file, order_file, plan_file, bounded_plan_file, priority_file, plan_priority_file}
+use Rattle.requests.specs.Request.{matrix_file, perm_file, order_file, plan_file, bounded_plan_file, fence_file, priority_file, plan_priority_file}
 use Rattle.reports.proofs.OneInput.{TaskSystems, same_task_texts}
 
 -- what is known of a format
@@ -63,6 +65,7 @@ pub record Formats : Type 0 where
   pub orders : IsFormat ReadsOrder RefusesOrder
   pub plans : IsFormat ReadsPlan RefusesPlan
   pub bounded_plans : IsFormat ReadsBoundedPlan RefusesBoundedPlan
+  pub fences : IsFormat ReadsFences RefusesFences
   pub patterns : (bytes : List ℕ) (one two : List (List ℕ)) → ReadsPattern bytes one → ReadsPattern bytes two → one ≡ two
   pub one_plan : (bytes : List ℕ) (one two : PlanValue) → ReadsPlan bytes one → ReadsPlan bytes two → one ≡ two
   pub systems : TaskSystems
@@ -125,6 +128,8 @@ module _ (f : Formats) where
       not_refused (codes "plan") plan_word ReadsPlan RefusesPlan f.plans text answer plan is refused
   not_both bounded_plan_file earlier text answer (plan, is) refused =
       not_refused (codes "plan") plan_word ReadsBoundedPlan RefusesBoundedPlan f.bounded_plans text answer plan is refused
+  not_both fence_file earlier text answer (certificate, is) refused =
+      not_refused (codes "fences") fence_word ReadsFences RefusesFences f.fences text answer certificate is refused
   not_both (priority_file tasks) earlier text answer
       (mine, one, s, order, split, is_system, is) (mine', one', t, split', is_system', refused) =
       let n = length s.tasks in
@@ -160,6 +165,8 @@ module _ (f : Formats) where
       refused_once (codes "plan") plan_word ReadsPlan RefusesPlan f.plans text one two is other
   one_refusal bounded_plan_file earlier text one two is other =
       refused_once (codes "plan") plan_word ReadsBoundedPlan RefusesBoundedPlan f.bounded_plans text one two is other
+  one_refusal fence_file earlier text one two is other =
+      refused_once (codes "fences") fence_word ReadsFences RefusesFences f.fences text one two is other
   one_refusal (priority_file tasks) earlier text one two
       (mine, first, s, split, is_system, is) (mine', first', t, split', is_system', other) =
       let n = length s.tasks in

@@ -34,10 +34,10 @@ use Rattle.reports.specs.Fronts.{IsFrontsOf}
 use Rattle.reports.specs.Post.{IsPost, post_answer}
 use Rattle.reports.specs.Replay.{IsReplayAnswer, IsReplayOf}
 use Rattle.requests.specs.Request.{Request, replay, tree, post, check, planning, simulate, demo, upgrade, spill, segments}
-use Rattle.requests.specs.Request.{check_graph, plan_graph, bounding, reduce, Upgrade, IsInRange, IsMakeable, TreeInput, matrix_named, Input, OrderSource}
+use Rattle.requests.specs.Request.{check_fences, check_graph, plan_graph, bounding, fencing, reduce, Upgrade, IsInRange, IsMakeable, TreeInput, matrix_named, Input, OrderSource}
 use Rattle.requests.specs.Request.{TaskSource, input_tasks, graph_tasks, task_files}
 use Rattle.requests.specs.Request.{order_named, plan_named, Simulation, FileRole, NamedFile, tree_input_files, input_files}
-use Rattle.requests.specs.Request.{source_file, priority_file, priority_files, files_of, fronts, OrderedMatrix}
+use Rattle.requests.specs.Request.{fence_file, source_file, priority_file, priority_files, files_of, fronts, OrderedMatrix}
 use Rattle.reports.specs.Simulate.{IsPriorityFrom, IsSimulation, IsSimulationOf, setting_of, simulation_answer}
 use Rattle.judging.specs.Priorities.{IsOwnPriority, priority_or}
 use Rattle.reports.specs.Tree.{tree_answer}
@@ -214,9 +214,11 @@ module _ (r : Reports) where
       posted_once nodes a b one.1 best (subst (λ (ns : List Node). IsPost ns b) (sym one.0) best')
   one_report (check input plan workers) texts a b has decided is is' = checked_once input texts a b is is'
   one_report (check_graph graph name workers) texts a b has decided is is' = absurd decided
+  one_report (check_fences tasks fences) texts a b has decided is is' = absurd decided
   one_report (planning input format) texts a b workers decided is is' = absurd decided
   one_report (plan_graph graph order effort format) texts a b workers decided is is' = absurd decided
   one_report (simulate tasks source s) texts a b workers decided is is' = simulated_once tasks source s texts a b workers.0 is is'
+  one_report (fencing tasks source f) texts a b within decided is is' = absurd decided
   one_report (demo made) texts a b within decided is is' = r.demos made a b within is is'
   one_report (upgrade u) texts a b within decided is is' = one_upgrade_answer r.upgrades u texts a b is is'
   one_report (spill tasks source bound) texts a b within decided is is' = absurd decided
@@ -280,6 +282,9 @@ module _ (r : Reports) where
       (work_has_system input mine s ps with_term) ((plan, is_plan), tt)
   report_accepted (check_graph graph name workers) texts a (text, file, system, plan, e, is, is_plan, x) =
       subst (AreAccepted (files_of (check_graph graph name workers)) []) (sym e) ((system, is), ((plan, is_plan), tt))
+  report_accepted (check_fences tasks name) texts a (mine, text, s, certificate, split, is_system, is_fences, x) =
+      with_tasks tasks (record { role = fence_file; name = name } ∷ []) texts mine (text ∷ []) s split is_system
+      ((certificate, is_fences), tt)
   report_accepted (planning input format) texts a is =
       input_accepted input texts is.system (work_has_system input texts is.system is.positions is.with_term)
   report_accepted (simulate tasks source s) texts a
@@ -289,6 +294,9 @@ module _ (r : Reports) where
         source_accepted source mine text order is_order,
         priority_accepted tasks source s.priority mine text rest system order priority is_system is_priority,
       )
+  report_accepted (fencing tasks source f) texts a (mine, text, s, order, split, is_system, is_order, x) =
+      with_tasks tasks (source_file source ∷ []) texts mine (text ∷ []) s split is_system
+      (source_accepted source mine text order is_order, tt)
   report_accepted (demo made) texts a is = tt
   report_accepted (upgrade u) texts a (value, is, e) = upgrade_accepted u texts value is
   report_accepted (spill (input_tasks input) source bound) texts a (mine, text, s, order, split, is_system, is_order, is) =

@@ -8,6 +8,8 @@ pub mod PlanGraph
 pub mod Plan
 pub mod Simulate
 pub mod Demo
+pub mod Fence
+pub mod CheckFences
 pub mod Upgrade
 pub mod Spill
 pub mod SpilledGaps

@@ -1,11 +1,13 @@
 -- What each command promises of what it prints, beside that it is an answer.
 use Rattle.std.specs.Prelude.{◌≡◌, ◌≤◌, ℕ, List}
 use Rattle.requests.specs.Request.{Request, replay, tree, post, check, planning, simulate, demo, upgrade, spill, segments, fronts, reduce}
-use Rattle.requests.specs.Request.{check_graph, plan_graph, bounding, IsMakeable}
+use Rattle.requests.specs.Request.{check_fences, check_graph, plan_graph, bounding, fencing, IsMakeable}
 use Rattle.judging.specs.Files.{Answer}
 use Rattle.reports.specs.Reports.{IsReport}
 use Rattle.reports.specs.Check.{IsCertified}
 use Rattle.reports.specs.CheckGraph.{IsBoundCertified}
+use Rattle.reports.specs.CheckFences.{AreFencesCertified}
+use Rattle.reports.specs.Fence.{IsFencedIn}
 use Rattle.reports.specs.Bound.{IsBounded}
 use Rattle.reports.specs.Plan.{IsBestPlan}
 use Rattle.reports.specs.PlanGraph.{IsGraphPlanned}
@@ -37,6 +39,9 @@ Says (check input plan workers) texts ended printed = ended ≡ status.Done → 
 -- where a plan with a bound was checked and accepted, its order is a traversal of the task graph, its peak is the one that it states and
 -- that was printed, and no traversal has a peak below the bound; where `least` was printed, none has a lower one
 Says (check_graph graph plan workers) texts ended printed = ended ≡ status.Done → IsBoundCertified texts printed
+-- where fences were checked and accepted, memory stays within the bound that they state, and that was printed, along every parallel run of the
+-- tasks that keeps to them, on as many workers as they are for, and no such run comes to a stop before all tasks are done
+Says (check_fences tasks fences) texts ended printed = ended ≡ status.Done → AreFencesCertified tasks texts printed
 -- where a plan was made, what was printed is a plan file, or the JSON of its plan: the order is a traversal of the input's system, its
 -- peak is the one that the plan states, no traversal has a lower one, and `check` says yes to the file
 Says (planning input format) texts ended printed = ended ≡ status.Done → IsBestPlan input format texts printed
@@ -47,6 +52,9 @@ Says (plan_graph graph order effort format) texts ended printed = ended ≡ stat
 -- where a run was simulated to its end, its events are one activation, one start and one finish of each of the tasks, and
 -- memory stayed within the bound, which is at least the peak of the order
 Says (simulate tasks source simulation) texts ended printed = ended ≡ status.Done → IsSimulated tasks source simulation texts printed
+-- where fences were made, what was printed is a file of fences that `check` accepts: memory stays within the bound along every parallel run of the
+-- tasks that keeps to them, on as many workers as were asked for, and no such run comes to a stop before all tasks are done
+Says (fencing tasks source f) texts ended printed = ended ≡ status.Done → IsFencedIn tasks source f texts printed
 -- where a demo was made, what was printed is its summary: the checker says yes, and no traversal of the made system has a lower peak
 -- than the one that was printed
 Says (demo made) texts ended printed = ended ≡ status.Done → IsShown made printed

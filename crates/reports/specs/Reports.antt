@@ -3,11 +3,13 @@
 use Rattle.std.specs.Prelude.{◌≡◌, ℕ, List, [], ◌⊎◌}
 use Rattle.trees.specs.declared.node.Node.{Node}
 use Rattle.requests.specs.Request.{Request, replay, tree, post, check, planning, simulate, demo, upgrade, spill, fronts, segments, reduce}
-use Rattle.requests.specs.Request.{check_graph, plan_graph, bounding, files_of}
+use Rattle.requests.specs.Request.{check_fences, check_graph, plan_graph, bounding, fencing, files_of}
 use Rattle.reports.specs.Replay.{IsReplayOf}
 use Rattle.judging.specs.Files.{IsTreeOf, IsFirstRefusal, IsMatrixTree, Answer}
 use Rattle.reports.specs.Check.{IsCheckOf}
 use Rattle.reports.specs.CheckGraph.{IsBoundCheckOf}
+use Rattle.reports.specs.CheckFences.{IsFenceCheckOf}
+use Rattle.reports.specs.Fence.{IsFenceAnswerOf}
 use Rattle.reports.specs.Bound.{IsBoundOf}
 use Rattle.reports.specs.Simulate.{IsSimulationOf}
 use Rattle.reports.specs.Plan.{IsPlanOf}
@@ -28,9 +30,11 @@ IsReport (tree m) texts answer = (nodes : List Node) × IsMatrixTree m texts nod
 IsReport (post input) texts answer = (nodes : List Node) × IsTreeOf input texts nodes × IsPost nodes answer
 IsReport (check input plan workers) texts answer = IsCheckOf input texts answer
 IsReport (check_graph graph plan workers) texts answer = IsBoundCheckOf texts answer
+IsReport (check_fences tasks fences) texts answer = IsFenceCheckOf tasks texts answer
 IsReport (planning input format) texts answer = IsPlanOf input format texts answer
 IsReport (plan_graph graph order effort format) texts answer = IsGraphPlanOf order format texts answer
 IsReport (simulate tasks source s) texts answer = IsSimulationOf tasks source s texts answer
+IsReport (fencing tasks source f) texts answer = IsFenceAnswerOf tasks source f texts answer
 IsReport (demo made) texts answer = IsDemoOf made answer
 IsReport (upgrade u) texts answer = IsUpgradeOf u texts answer
 IsReport (spill tasks source bound) texts answer = IsSpillOf tasks source bound texts answer
@@ -41,7 +45,7 @@ IsReport (bounding graph order effort) texts answer = IsBoundOf order texts answ
 
 -- the files of a request decide its answer; but `plan` may print any plan of least peak with a certificate, or any of a graph, `spill` the
 -- amounts of any spill plan of least volume, `reduce` any term of a graph or any irreducible rest, `bound` any bound for which there is
--- evidence, and `check` may judge the claims of a plan on any term of a graph
+-- evidence, `fence` any fences that amounts certify, and `check` may judge the claims of a plan on any term of a graph
 abbrev pub IsDecided : Request → Type 0
 IsDecided (planning input format) = ⊥
 IsDecided (plan_graph graph order effort format) = ⊥
@@ -49,6 +53,8 @@ IsDecided (spill tasks source bound) = ⊥
 IsDecided (reduce name) = ⊥
 IsDecided (bounding graph order effort) = ⊥
 IsDecided (check_graph graph plan workers) = ⊥
+IsDecided (check_fences tasks fences) = ⊥
+IsDecided (fencing tasks source f) = ⊥
 IsDecided request = Unit {0}
 
 -- the answer to a request over the texts of its files

@@ -2,8 +2,10 @@
 
 pub mod bound;
 pub mod check;
+pub mod check_fences;
 pub mod check_graph;
 pub mod demo;
+pub mod fence;
 pub mod fronts;
 pub mod gap_report;
 pub mod plan;
@@ -50,9 +52,11 @@ pub fn report<R: Threads + Sync, F: Files, G: Gate>(
         Request::CheckGraph(asked) => {
             check_graph::report_check_graph(rt, alloc, files, asked, gate)
         }
+        Request::CheckFences(asked) => check_fences::report_check_fences(alloc, files, asked),
         Request::Plan(input, format) => plan::report_plan(alloc, files, input, format),
         Request::PlanGraph(asked) => plan_graph::report_plan_graph(alloc, files, asked),
         Request::Simulate(asked) => simulate::report_simulate(alloc, files, asked),
+        Request::Fence(asked) => fence::report_fence(alloc, files, asked),
         Request::Demo(made) => Ok(demo::report_demo(rt, alloc, made, gate)?),
         Request::Upgrade(asked) => upgrade::report_upgrade(alloc, files, asked),
         Request::Spill(asked) => spill::report_spill(alloc, files, asked),

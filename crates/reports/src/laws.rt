@@ -27,6 +27,8 @@ use bound_check::laws as bound_check_laws;
 use bounded_plan_files::laws as bounded_plan_laws;
 use claim_check::laws as claim_laws;
 use elim_tree::laws as fill_laws;
+use fence_files::laws as fence_file_laws;
+use fences::laws as fence_laws;
 use graph_files::laws as graph_file_laws;
 use matrix_files::laws as matrix_file_laws;
 use mp_gen::laws::made_inputs;
@@ -42,6 +44,7 @@ use shared_reduce::laws as shared_reduction_laws;
 use shared_systems::laws as shared_laws;
 use sp_cuts::laws as stair_laws;
 use sp_reduce::laws as reduction_laws;
+use sp_term_laws::laws as term_order_laws;
 use sp_terms::laws as term_laws;
 use symbolic::laws as front_laws;
 use tree_files::laws as tree_file_laws;
@@ -85,6 +88,23 @@ fn one_input()
     shared_graph_laws::read_law();
 }
 
+// The tasks of a source can be ordered, so they are a shared system within the limits.
+fn shared_tasks()
+    ensures { (source : TaskSource) (texts : List (List ℕ)) (system : SharedTaskSystem) → IsTaskSystemOf source texts system →
+        IsSharedSystem system }
+{
+    one_input();
+    tree_laws::tree_system();
+    tree_laws::forest_law();
+    tree_laws::tree_term();
+    workflow_laws::read_law();
+    term_laws::terms_law();
+    term_order_laws::value_law();
+    system_laws::renaming_law();
+    shared_laws::one_reader_system_law();
+    shared_graph_laws::read_law();
+}
+
 // A file is accepted or refused, never both, and refused with one answer.
 fn one_file()
     ensures not_both { (role : FileRole) (earlier : List (List ℕ)) (text : List ℕ) (answer : Answer) → HasValue role earlier text →
@@ -101,6 +121,7 @@ fn one_file()
     plan_laws::exactly_one();
     shared_graph_laws::exactly_one();
     bounded_plan_laws::exactly_one();
+    fence_file_laws::exactly_one();
 }
 
 // A demo has one answer: plans may differ, but not their peak; the checker says yes to them, and no traversal has a lower peak.
@@ -225,6 +246,8 @@ pub fn what_answers_say()
     bound_check_laws::accepted_law();
     bounded_plan_laws::printed_plan();
     bounded_plan_laws::printed_length();
+    fence_laws::certificate_law();
+    shared_tasks();
     workflow_laws::named_workflow();
     one_demo();
     one_upgrade();

@@ -1,6 +1,6 @@
 -- Requests: what can be asked for, what the commands share of the words for it, and the files that a request names.
 use Rattle.std.specs.Prelude.{ℕ, ◌*◌, ◌≤◌, Bool, true, false, ◌&&◌, nat_le, List, [], ◌∷◌, ◌++◌, Option, Some, None, is_some}
-use Rattle.std.specs.Prelude.{option_map, option_and_then, codes, if◌then◌else◌}
+use Rattle.std.specs.Prelude.{option_map, option_and_then, codes, if◌then◌else◌, IfSome}
 use Rattle.std.specs.List.{list_any}
 use Rattle.std.specs.Str.{bytes_eq}
 use Rattle.limits.specs.Limits.{most_workers, most_tasks, most_mindeg, most_zeros}
@@ -61,6 +61,13 @@ pub record Simulation : Type 0 where
   -- the name of a priority file; with none, the priority is that of the plan, or the order
   pub priority : Option (List ℕ)
 
+-- what fences are asked for
+pub record Fencing : Type 0 where
+  -- at most so much memory
+  pub bound : ℕ
+  -- for runs on at most so many workers; with none, on any number of them
+  pub workers : Option ℕ
+
 -- how a plan is printed: as a plan file, or as JSON
 pub data PlanFormat : Type 0 where
   as_file : PlanFormat
@@ -85,12 +92,16 @@ pub data Request : Type 0 where
   check : Input → List ℕ → ℕ → Request
   -- whether a plan with a bound is accepted for a task graph, by the names of their files; by so many workers
   check_graph : List ℕ → List ℕ → ℕ → Request
+  -- whether fences, by the name of their file, keep all runs of tasks within their bound
+  check_fences : TaskSource → List ℕ → Request
   -- a traversal of least peak, with its certificate
   planning : Input → PlanFormat → Request
   -- an order of a task graph, no worse than that of the file, if one is named, and a bound, with its evidence; with so much effort
   plan_graph : List ℕ → Option (List ℕ) → ℕ → PlanFormat → Request
   -- the run of tasks on several workers within a bound, activated in an order
   simulate : TaskSource → OrderSource → Simulation → Request
+  -- fences that keep all runs of tasks within a bound, along an order
+  fencing : TaskSource → OrderSource → Fencing → Request
   -- an input that is made, its plan, and whether the plan is accepted
   demo : Demo → Request
   -- a file, as version 2
@@ -209,6 +220,11 @@ abbrev pub workers_or_one : Option (List ℕ) → Option ℕ
 workers_or_one None = Some 1
 workers_or_one (Some word) = number_up_to most_workers (Some word)
 
+-- a number of workers, if one is given
+abbrev pub workers_given : Option (List ℕ) → Option (Option ℕ)
+workers_given None = Some None
+workers_given (Some word) = option_map (λ n. Some n) (number_up_to most_workers (Some word))
+
 -- how many steps a search may take, where no number is given
 abbrev pub default_effort : ℕ
 default_effort = 1000000000
@@ -232,6 +248,7 @@ abbrev pub IsInRange : Request → Type 0
 IsInRange (check input plan workers) = AreWorkers workers
 IsInRange (check_graph graph plan workers) = AreWorkers workers
 IsInRange (simulate tasks source s) = AreWorkers s.workers
+IsInRange (fencing tasks source f) = IfSome f.workers AreWorkers
 IsInRange (demo made) = IsMakeable made
 IsInRange (fronts m bound workers) = AreWorkers workers
 IsInRange request = Unit {0}
@@ -255,6 +272,8 @@ pub data FileRole : Type 0 where
   plan_file : FileRole
   -- a plan of version 3
   bounded_plan_file : FileRole
+  -- fences, with the amounts that certify their bound
+  fence_file : FileRole
   -- a priority ranks the tasks of a source, or those of a plan
   priority_file : TaskSource → FileRole
   plan_priority_file : FileRole
@@ -314,9 +333,11 @@ files_of (post input) = tree_input_files input
 files_of (check input plan workers) = input_files input ++ source_file (plan_named plan) ∷ []
 files_of (check_graph graph plan workers) =
     record { role = shared_graph_file; name = graph } ∷ record { role = bounded_plan_file; name = plan } ∷ []
+files_of (check_fences tasks fences) = task_files tasks ++ record { role = fence_file; name = fences } ∷ []
 files_of (planning input format) = input_files input
 files_of (plan_graph graph order effort format) = record { role = shared_graph_file; name = graph } ∷ order_files order
 files_of (simulate tasks source s) = task_files tasks ++ source_file source ∷ priority_files (priority_file tasks) s.priority
+files_of (fencing tasks source f) = task_files tasks ++ source_file source ∷ []
 files_of (demo made) = []
 files_of (upgrade u) = upgrade_files u
 files_of (spill tasks source bound) = task_files tasks ++ source_file source ∷ []

@@ -13,6 +13,7 @@ use Rattle.requests.specs.declared.request.PlanFormat.{PlanFormat}
 use Rattle.requests.specs.declared.request.PlanFormat.TheVariants as formats
 use Rattle.requests.specs.declared.request.Request.{Request}
 use Rattle.requests.specs.declared.request.Request.TheVariants as commands
+use Rattle.requests.specs.declared.commands.fence.Fencing.{Fencing}
 use Rattle.requests.specs.declared.commands.simulate.Simulation.{Simulation}
 use Rattle.requests.specs.declared.commands.upgrade.Upgrade.{Upgrade}
 use Rattle.requests.specs.declared.commands.upgrade.Upgrade.TheVariants as upgrades
@@ -51,6 +52,9 @@ source_view (sources.Plan name) = requests.plan_named name.now
 abbrev pub simulation_view : Simulation → requests.Simulation
 simulation_view names = record { bound = names.bound; workers = names.workers; priority = option_map (λ name. name.now) names.priority }
 
+abbrev pub fencing_view : Fencing → requests.Fencing
+fencing_view names = record { bound = names.bound; workers = names.workers }
+
 abbrev pub format_view : PlanFormat → requests.PlanFormat
 format_view formats.File = requests.as_file
 format_view formats.Json = requests.as_json
@@ -67,10 +71,12 @@ request_view (commands.Tree m) = requests.tree (matrix_view m)
 request_view (commands.Post input) = requests.post (tree_input_view input)
 request_view (commands.Check c) = requests.check (input_view c.input) c.plan.now c.workers
 request_view (commands.CheckGraph c) = requests.check_graph c.graph.now c.plan.now c.workers
+request_view (commands.CheckFences c) = requests.check_fences (tasks_view c.tasks) c.fences.now
 request_view (commands.Plan input format) = requests.planning (input_view input) (format_view format)
 request_view (commands.PlanGraph p) =
     requests.plan_graph p.graph.now (option_map (λ name. name.now) p.order) p.effort (format_view p.format)
 request_view (commands.Simulate names) = requests.simulate (tasks_view names.tasks) (source_view names.source) (simulation_view names)
+request_view (commands.Fence names) = requests.fencing (tasks_view names.tasks) (source_view names.source) (fencing_view names)
 request_view (commands.Demo made) = requests.demo made
 request_view (commands.Upgrade u) = requests.upgrade (upgrade_view u)
 request_view (commands.Spill s) = requests.spill (tasks_view s.tasks) (source_view s.source) s.bound

@@ -3,9 +3,9 @@ use Rattle.std.specs.Prelude.{◌≡◌, ℕ, List, [], ◌∷◌, Option, optio
 use Rattle.std.specs.Prelude.{codes, ◌*◌, nat_le, Some, None, if◌then◌else◌}
 use Rattle.std.specs.Prelude.{find, map}
 use Rattle.std.specs.Prelude.{String, string_bytes}
-use Rattle.requests.specs.Request.{Request, TaskSource, input_tasks, graph_tasks, bounding, effort_or_default, check, check_graph}
+use Rattle.requests.specs.Request.{Request, TaskSource, input_tasks, graph_tasks, bounding, effort_or_default, check, check_fences, check_graph}
 use Rattle.requests.specs.Request.{input_of, workers_or_one, demo, gives_any, number_given, number_up_to}
-use Rattle.requests.specs.Request.{fronts, ordering_of, planning, plan_graph, PlanFormat, is_second, format_of}
+use Rattle.requests.specs.Request.{fencing, workers_given, fronts, ordering_of, planning, plan_graph, PlanFormat, is_second, format_of}
 use Rattle.requests.specs.Request.{post, tree_input_of, reduce, replay, tasks_of, source_of, segments}
 use Rattle.requests.specs.Request.{simulate, spill, tree, matrix_of}
 use Rattle.requests.specs.Request.{upgrade, Upgrade, tree_upgrade, workflow_upgrade, graph_upgrade, plan_upgrade}
@@ -28,13 +28,22 @@ abbrev pub checking : TaskSource → List ℕ → ℕ → Request
 checking (input_tasks input) plan workers = check input plan workers
 checking (graph_tasks graph) plan workers = check_graph graph plan workers
 
--- `check`, one input or task graph, `--plan NAME`, and `--workers N` if it is given
+-- the check of fences, which are for a number of workers of their own
+abbrev pub fences_checked : TaskSource → List ℕ → List Given → Option Request
+fences_checked tasks fences options =
+    if gives_any (codes "workers" ∷ []) options then None else Some (check_fences tasks fences)
+
+-- a plan or fences, not both; by the names that are given for them
+abbrev pub checked_of : Option (List ℕ) → Option (List ℕ) → TaskSource → List Given → Option Request
+checked_of None None tasks options = None
+checked_of None (Some fences) tasks options = fences_checked tasks fences options
+checked_of (Some plan) None tasks options = option_map (checking tasks plan) (workers_or_one (value_of (codes "workers") options))
+checked_of (Some plan) (Some fences) tasks options = None
+
+-- `check`, one input or task graph, `--plan NAME`, and `--workers N` if it is given; or `--fences NAME`
 abbrev pub check_of : List Given → Option Request
 check_of options =
-    option_and_then (λ tasks.
-    option_and_then (λ plan.
-    option_map (checking tasks plan) (workers_or_one (value_of (codes "workers") options)))
-    (value_of (codes "plan") options))
+    option_and_then (λ tasks. checked_of (value_of (codes "plan") options) (value_of (codes "fences") options) tasks options)
     (tasks_of options)
 
 -- `--seed S` and `--tasks N`, of at most 10^6 tasks, without rows and columns
@@ -75,6 +84,18 @@ made_of kind options =
 -- `demo`, `--kind tree|workflow|grid` if it is given, and the numbers of what is to be made
 abbrev pub demo_of : List Given → Option Request
 demo_of options = option_map demo (made_of (kind_or_tree (value_of (codes "kind") options)) options)
+
+-- `fence`, one input or task graph, `--order NAME` or `--plan NAME`, `--bound B`, and `--workers N` if it is given
+abbrev pub fence_of : List Given → Option Request
+fence_of options =
+    option_and_then (λ tasks.
+    option_and_then (λ source.
+    option_and_then (λ bound.
+    option_map (λ workers. fencing tasks source (record { bound = bound; workers = workers }))
+    (workers_given (value_of (codes "workers") options)))
+    (number_given (value_of (codes "bound") options)))
+    (source_of (value_of (codes "order") options) (value_of (codes "plan") options)))
+    (tasks_of options)
 
 -- `fronts`, `--matrix NAME`, its `--perm NAME` or `--ordering natural|mindeg` if one is given, `--bound B` and `--workers N`
 abbrev pub fronts_of : List Given → Option Request
@@ -178,7 +199,7 @@ commands =
     record { name = codes "replay"; options = codes "order" ∷ codes "plan" ∷ task_names; asks = replay_of }
     ∷ record { name = codes "tree"; options = matrix_names; asks = tree_request_of }
     ∷ record { name = codes "post"; options = tree_names; asks = post_of }
-    ∷ record { name = codes "check"; options = codes "plan" ∷ codes "workers" ∷ task_names; asks = check_of }
+    ∷ record { name = codes "check"; options = codes "plan" ∷ codes "fences" ∷ codes "workers" ∷ task_names; asks = check_of }
     ∷ record { name = codes "plan"; options = codes "print" ∷ codes "order" ∷ codes "effort" ∷ task_names; asks = plan_of }
     ∷ record {
       name = codes "simulate";
@@ -204,6 +225,11 @@ commands =
     }
     ∷ record { name = codes "reduce"; options = codes "graph" ∷ []; asks = reduce_of }
     ∷ record { name = codes "bound"; options = codes "graph" ∷ codes "order" ∷ codes "effort" ∷ []; asks = bound_of }
+    ∷ record {
+      name = codes "fence";
+      options = codes "order" ∷ codes "plan" ∷ codes "bound" ∷ codes "workers" ∷ task_names;
+      asks = fence_of;
+    }
     ∷ []
 
 abbrev pub shape_of : Command → Shape

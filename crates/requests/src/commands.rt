@@ -3,6 +3,7 @@
 pub mod bound;
 pub mod check;
 pub mod demo;
+pub mod fence;
 pub mod fronts;
 pub mod plan;
 pub mod post;
@@ -24,7 +25,7 @@ use command_line::{Line, Shape, read_words};
 use std::alloc::{AllocError, Global};
 
 // Each command, with the names of its options.
-static COMMANDS: [Shape; 13] = [
+static COMMANDS: [Shape; 14] = [
     Shape {
         name: "replay",
         options: &[&["order", "plan", "graph"], INPUT, MATRIX_OPTIONS],
@@ -39,7 +40,11 @@ static COMMANDS: [Shape; 13] = [
     },
     Shape {
         name: "check",
-        options: &[&["plan", "workers", "graph"], INPUT, MATRIX_OPTIONS],
+        options: &[
+            &["plan", "fences", "workers", "graph"],
+            INPUT,
+            MATRIX_OPTIONS,
+        ],
     },
     Shape {
         name: "plan",
@@ -85,6 +90,14 @@ static COMMANDS: [Shape; 13] = [
         name: "bound",
         options: &[&["graph", "order", "effort"]],
     },
+    Shape {
+        name: "fence",
+        options: &[
+            &["order", "plan", "bound", "workers", "graph"],
+            INPUT,
+            MATRIX_OPTIONS,
+        ],
+    },
 ];
 
 fn command_of<'a>(line: &Line<'a>) -> Option<Request<'a>>
@@ -105,6 +118,7 @@ fn command_of<'a>(line: &Line<'a>) -> Option<Request<'a>>
         "fronts" => fronts::fronts_of(line),
         "reduce" => reduce::reduce_of(line),
         "bound" => bound::bound_of(line),
+        "fence" => fence::fence_of(line),
         _ => None,
     }
 }

@@ -8,8 +8,9 @@ mod commands;
 mod request;
 
 pub use commands::bound::Bounding;
-pub use commands::check::{Check, GraphCheck};
+pub use commands::check::{Check, FenceCheck, GraphCheck};
 pub use commands::demo::Demo;
+pub use commands::fence::Fencing;
 pub use commands::fronts::FrontRun;
 pub use commands::plan::GraphPlan;
 pub use commands::replay::Replay;

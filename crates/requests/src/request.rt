@@ -1,14 +1,15 @@
 ghost use Rattle.std.specs.Prelude.{◌≡◌, ◌<◌, ◌≤◌, ◌^◌, IfSome, option_map};
 ghost use Rattle.requests.specs.Request.{is_second, ordering_named, ordering_of, zeros_named, matrix_of, gives_any, tree_input_of, input_of};
 ghost use Rattle.requests.specs.Request.{tasks_of, source_of, number_given, number_up_to, effort_or_default};
-ghost use Rattle.requests.specs.Request.{workers_or_one, AreWorkers};
+ghost use Rattle.requests.specs.Request.{workers_given, workers_or_one, AreWorkers};
 ghost use Rattle.command_line.specs.Views.{texts};
 ghost use Rattle.requests.specs.Options.{matrix_options, tree_names, input_names};
 ghost use Rattle.requests.specs.RequestViews.{ordering_view, matrix_view, tree_input_view, input_view, tasks_view, source_view};
 
 use crate::commands::bound::Bounding;
-use crate::commands::check::{Check, GraphCheck};
+use crate::commands::check::{Check, FenceCheck, GraphCheck};
 use crate::commands::demo::Demo;
+use crate::commands::fence::Fencing;
 use crate::commands::fronts::FrontRun;
 use crate::commands::plan::GraphPlan;
 use crate::commands::replay::Replay;
@@ -98,12 +99,16 @@ pub enum Request<'a> {
     Check(Check<'a>),
     /// Whether the plan with a bound is accepted for the task graph.
     CheckGraph(GraphCheck<'a>),
+    /// Whether the fences keep all runs of the tasks within their bound.
+    CheckFences(FenceCheck<'a>),
     /// A traversal of least peak, with its certificate.
     Plan(Input<'a>, PlanFormat),
     /// An order of a task graph, and what no order has a peak below, with evidence.
     PlanGraph(GraphPlan<'a>),
     /// The run of tasks on several workers within a bound, activated in the order.
     Simulate(Simulation<'a>),
+    /// Fences that keep all runs of the tasks within a bound, along the order.
+    Fence(Fencing<'a>),
     /// An input that is made, its plan, and whether the plan is accepted.
     Demo(Demo),
     /// A file, as version 2.
@@ -342,4 +347,16 @@ pub fn workers_of(given: Option<&str>) -> Option<u32>
         return Some(1);
     }
     number_up_to(u64::from(MOST_WORKERS), given)
+}
+
+/// A number of workers, if one is given.
+pub fn workers_given(given: Option<&str>) -> Option<Option<u32>>
+    ensures value { result ≡ workers_given (option_map (λ s. s.now) given.entry) }
+    ensures range { IfSome result (λ workers. IfSome workers AreWorkers) }
+{
+    if given.is_none() {
+        return Some(None);
+    }
+    let workers = number_up_to(u64::from(MOST_WORKERS), given)?;
+    Some(Some(workers))
 }

@@ -8,7 +8,7 @@ use Rattle.requests.specs.Request.{Request, Input, tree_input, tree_named, matri
 use Rattle.requests.specs.Request.{perm_named, order_named, plan_named, replay, tree, post, check, planning, as_file, as_json, simulate}
 use Rattle.requests.specs.Request.{demo, upgrade, tree_upgrade, graph_upgrade, plan_upgrade, spill, segments, fronts, reduce, files_of, FileRole, tree_file}
 use Rattle.requests.specs.Request.{workflow_file, matrix_file, perm_file, order_file, plan_file, priority_file}
-use Rattle.requests.specs.Request.{check_graph, bounding, default_effort, bounded_plan_file}
+use Rattle.requests.specs.Request.{check_fences, check_graph, bounding, default_effort, bounded_plan_file, fence_file, fencing}
 use Rattle.requests.specs.Request.{plan_priority_file, NamedFile, input_tasks, graph_tasks, shared_graph_file}
 use Rattle.requests.specs.Words.{request_of, AsksNothing}
 
@@ -111,6 +111,22 @@ pub bound_asked :
 unfolding tokens_of number_of number_from
 bound_asked = refl
 
+pub check_of_fences_asked :
+    asked (codes "check --graph g --fences f") ∷ asked (codes "check --fences f --tree t") ∷ asked (codes "check --tree t --fences f --workers 2")
+    ∷ asked (codes "check --tree t --fences f --plan p") ∷ []
+    ≡ Some (check_fences (graph_tasks (codes "g")) (codes "f")) ∷ Some (check_fences (input_tasks a_tree) (codes "f")) ∷ None ∷ None ∷ []
+unfolding tokens_of number_of number_from
+check_of_fences_asked = refl
+
+-- any number of workers, where none is given
+pub fence_asked :
+    asked (codes "fence --graph g --order o --bound 9") ∷ asked (codes "fence --workflow w --plan p --bound 9 --workers 4")
+    ∷ asked (codes "fence --graph g --bound 9") ∷ []
+    ≡ Some (fencing (graph_tasks (codes "g")) (order_named (codes "o")) (record { bound = 9; workers = None }))
+    ∷ Some (fencing (input_tasks a_workflow) (plan_named (codes "p")) (record { bound = 9; workers = Some 4 })) ∷ None ∷ []
+unfolding tokens_of number_of number_from
+fence_asked = refl
+
 -- ---- words that ask for nothing
 
 -- no words; help; no order; an order and a plan; a tree and a graph; two inputs; an option of matrices with a tree; no worker; two orders of elimination;
@@ -155,6 +171,8 @@ pub files_of_others :
     ∷ reduce (codes "g")
     ∷ check_graph (codes "g") (codes "p") 1
     ∷ bounding (codes "g") (Some (codes "o")) 7
+    ∷ check_fences (graph_tasks (codes "g")) (codes "f")
+    ∷ fencing (input_tasks a_workflow) (order_named (codes "o")) (record { bound = 9; workers = None })
     ∷ demo (demos.Grid 2 3)
     ∷ [])
     ≡ (file (matrix_file (perm_named (codes "q"))) (codes "m") ∷ file perm_file (codes "q") ∷ [])
@@ -164,5 +182,7 @@ pub files_of_others :
     ∷ (file shared_graph_file (codes "g") ∷ [])
     ∷ (file shared_graph_file (codes "g") ∷ file bounded_plan_file (codes "p") ∷ [])
     ∷ (file shared_graph_file (codes "g") ∷ file order_file (codes "o") ∷ [])
+    ∷ (file shared_graph_file (codes "g") ∷ file fence_file (codes "f") ∷ [])
+    ∷ (file workflow_file (codes "w") ∷ file order_file (codes "o") ∷ [])
     ∷ [] ∷ []
 files_of_others = refl

@@ -40,10 +40,14 @@ const WORSE: &str = "1 2 3 4\n";
 // One task with a block of its own.
 const ONE: &str = "tree 1\nnodes 1\n0 7 2 1\nend\n";
 
+// It draws all that it needs, and hands its block on to nobody.
+pub const FENCED: &str =
+    "fences 1\nbound 9\nworkers 0\nroom 0\njoins 0\nfences 0\namounts 1\n7\nend\n";
+
 #[rattlefmt::skip]
 pub const FILES: Texts = &[
     ("t", FIVE), ("o", "1 3 2 4 5\n"), ("p", "5 4 3 2 1\n"), ("m", ARROW), ("q", TURNED), ("g", GRAPH), ("h", CHAIN), ("s", PLAN), ("u", ONE), ("i", IDLE),
-    ("b", BOUNDED), ("z", ZIGZAG), ("w", WORSE),
+    ("b", BOUNDED), ("z", ZIGZAG), ("w", WORSE), ("x", "1\n"), ("f", FENCED),
 ];
 
 // ---- runs
@@ -67,6 +71,10 @@ pub const BOUND: &str = "bound --graph i";
 pub const CHECK_GRAPH: &str = "check --graph i --plan b --workers 2";
 
 pub const PLAN_GRAPH: &str = "plan --graph z --order w";
+
+pub const FENCE: &str = "fence --tree u --order x --bound 9";
+
+pub const CHECK_FENCES: &str = "check --tree u --fences f";
 
 // ---- what they print
 
@@ -108,6 +116,8 @@ const ANSWERS: &[(&str, &str)] = &[
     (BOUND, "bound 12\nneed 0\nend\n"),
     (CHECK_GRAPH, "yes 12 least\n"),
     (PLAN_GRAPH, PLAN_OF_ZIGZAG),
+    (FENCE, FENCED),
+    (CHECK_FENCES, "yes 9\n"),
     ("reduce --graph h", "workflow 1\ntasks 2\ndata 7\ndata 0\ndata 2\ntask 1 1\npar 2\ndata 0\ntask 1 1\nend\n# 1 1\n# 2 2\n"),
     ("upgrade --tree t", "tree 2\nnodes 5\n2 1 9 0 1\n5 5 0 0 1\n4 1 9 0 1\n5 5 0 0 1\n0 0 0 0 1\nend\n"),
     // a root alone, with a block of 850 and an extra of 764

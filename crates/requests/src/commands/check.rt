@@ -1,9 +1,9 @@
 //! `check`: what its words ask for.
 
-ghost use Rattle.std.specs.Prelude.{◌≡◌, IfSome, option_map};
-ghost use Rattle.requests.specs.Words.{check_of};
-ghost use Rattle.requests.specs.Request.{IsInRange};
-ghost use Rattle.requests.specs.RequestViews.{request_view};
+ghost use Rattle.std.specs.Prelude.{◌≡◌, IfSome, [], ◌∷◌, codes, option_map};
+ghost use Rattle.requests.specs.Words.{check_of, checked_of, checking, fences_checked};
+ghost use Rattle.requests.specs.Request.{AreWorkers, IsInRange};
+ghost use Rattle.requests.specs.RequestViews.{request_view, tasks_view};
 
 use crate::request::{Input, Request, TaskSource, tasks_of, workers_of};
 use command_line::Line;
@@ -26,24 +26,61 @@ pub struct GraphCheck<'a> {
     pub workers: u32,
 }
 
-/// `check`, an input or a task graph, `--plan NAME`, and `--workers N` if it is given.
+/// Tasks, and the name of a file of fences.
+#[derive(Clone, Copy, Debug)]
+pub struct FenceCheck<'a> {
+    pub tasks: TaskSource<'a>,
+    pub fences: &'a str,
+}
+
+// The check of a plan, of an input or of a task graph.
+fn checking<'a>(tasks: TaskSource<'a>, plan: &'a str, workers: u32) -> Request<'a>
+    requires { AreWorkers workers }
+    ensures value { request_view result ≡ checking (tasks_view tasks.entry) plan.entry.now workers }
+    ensures range { IsInRange (request_view result) }
+{
+    match tasks {
+        TaskSource::Input(input) => Request::Check(Check {
+            input,
+            plan,
+            workers,
+        }),
+        TaskSource::Graph(graph) => Request::CheckGraph(GraphCheck {
+            graph,
+            plan,
+            workers,
+        }),
+    }
+}
+
+// The check of fences, which are for a number of workers of their own.
+fn fences_checked<'a>(
+    tasks: TaskSource<'a>,
+    fences: &'a str,
+    line: &Line<'a>,
+) -> Option<Request<'a>>
+    ensures value { option_map request_view result ≡ fences_checked (tasks_view tasks.entry) fences.entry.now line.now.options }
+    ensures range { IfSome result (λ request. IsInRange (request_view request)) }
+{
+    if line.value("workers").is_some() {
+        return None;
+    }
+    Some(Request::CheckFences(FenceCheck { tasks, fences }))
+}
+
+/// `check`, an input or a task graph, and `--plan NAME`, with `--workers N` if it is given, or `--fences NAME`.
 pub fn check_of<'a>(line: &Line<'a>) -> Option<Request<'a>>
     ensures value { option_map request_view result ≡ check_of line.now.options }
     ensures range { IfSome result (λ request. IsInRange (request_view request)) }
 {
     let tasks = tasks_of(line)?;
-    let plan = line.value("plan")?;
-    let workers = workers_of(line.value("workers"))?;
-    match tasks {
-        TaskSource::Input(input) => Some(Request::Check(Check {
-            input,
-            plan,
-            workers,
-        })),
-        TaskSource::Graph(graph) => Some(Request::CheckGraph(GraphCheck {
-            graph,
-            plan,
-            workers,
-        })),
+    match (line.value("plan"), line.value("fences")) {
+        (None, None) => None,
+        (None, Some(fences)) => fences_checked(tasks, fences, line),
+        (Some(plan), None) => {
+            let workers = workers_of(line.value("workers"))?;
+            Some(checking(tasks, plan, workers))
+        }
+        (Some(_), Some(_)) => None,
     }
 }

@@ -7,11 +7,12 @@ use Rattle.shared_graph_files.specs.EitherVersion.{StatesAs}
 use Rattle.reports.specs.Reduce.{are_second}
 use Rattle.reports.specs.Promises.{done_answer}
 use Rattle.requests.specs.Request.{Request, replay, tree, post, check, planning, simulate, demo, upgrade, spill, segments, fronts, reduce}
-use Rattle.requests.specs.Request.{check_graph, plan_graph, bounding}
+use Rattle.requests.specs.Request.{check_fences, check_graph, plan_graph, bounding, fencing}
 use Rattle.judging.specs.declared.status.Status.TheVariants.{Done}
 use Rattle.reports.proofs.RunLemmas.{report_when_done, report_of_rest}
 use Rattle.reports.proofs.SoundAnswer.{certified, best, simulated}
 use Rattle.reports.proofs.BoundLemmas.{bounded, bound_certified}
+use Rattle.reports.proofs.FenceLemmas.{fenced, fences_certified}
 use Rattle.reports.proofs.GraphPlanLemmas.{graph_planned}
 use Rattle.reports.proofs.UpgradeLemmas.{upgraded}
 use Rattle.reports.proofs.SpillLemmas.{spilled_tasks}
@@ -40,6 +41,9 @@ returns c (check input plan workers) texts answer possible is = λ done.
 returns c (check_graph graph plan workers) texts answer possible is = λ done.
     bound_certified c.read_law-3.ensures c.accepted_law-2.ensures.bound c.accepted_law-2.ensures.least
     texts answer (report_when_done (check_graph graph plan workers) texts answer is done) done
+returns c (check_fences tasks fences) texts answer possible is = λ done.
+    fences_certified c.shared_tasks.ensures c.certificate_law.ensures.bound c.certificate_law.ensures.goes_on
+    tasks texts answer (report_when_done (check_fences tasks fences) texts answer is done) done
 returns c (planning input format) texts answer possible is = λ done.
     best (λ i ts nodes of_tree. (c.one_input.ensures.tree i ts nodes nodes of_tree of_tree).1)
     c.tree_term.ensures.terms c.tree_term.ensures.system
@@ -52,6 +56,9 @@ returns c (plan_graph graph order effort format) texts answer possible is = λ d
 returns c (simulate tasks source simulation) texts answer possible is = λ done.
     simulated c.one_input.ensures.tasks c.schedule_law.ensures.legal c.schedule_law.ensures.each_once c.schedule_law.ensures.within
     tasks source simulation texts answer possible (report_when_done (simulate tasks source simulation) texts answer is done) done
+returns c (fencing tasks source f) texts answer possible is = λ done.
+    fenced c.shared_tasks.ensures c.certificate_law.ensures.bound c.certificate_law.ensures.goes_on
+    tasks source f texts answer (report_when_done (fencing tasks source f) texts answer is done) done
 returns c (demo made) texts answer possible is =
     λ done. c.one_demo.ensures.shown made answer possible (report_when_done (demo made) texts answer is done)
 returns c (upgrade file) texts answer possible is = λ done.
