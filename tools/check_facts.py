@@ -55,6 +55,7 @@ FILES = (
     Format("perm", "crates/matrix_files/src/perm_file.rt", "PermKind", "crates/matrix_files/specs/OrderKinds.antt", "perm_word", "Permutation files"),
     Format("order", "crates/matrix_files/src/order_file.rt", "OrderFileKind", "crates/matrix_files/specs/OrderKinds.antt", "order_file_word", "Order files"),
     Format("plan", "crates/plan_files/src/kind.rt", "PlanKind", "crates/plan_files/specs/Kinds.antt", "word_of", "Plan files"),
+    Format("fences", "crates/fence_files/src/kind.rt", "FenceKind", "crates/fence_files/specs/Kinds.antt", "word_of", "Fence files"),
 )
 # A priority file is judged as a permutation file.
 SAME_KINDS = {"priority": "perm"}

@@ -47,7 +47,7 @@ COMPLAINTS = {2: "usage", 6: "read fault", 7: "write fault", 8: "no memory"}
 # What a name as code must end with to be taken for a file.
 ENDINGS = tuple(
     ".md .rt .antt .py .txt .c .h .cpp .hpp .f90 .edit .tree .workflow .graph .mtx .perm .order "
-    ".postorder .plan .priority .svg .png .toml".split()
+    ".postorder .plan .fences .priority .svg .png .toml".split()
 )
 SPAN = re.compile(r"`([^`]+)`")
 LINK = re.compile(r"\]\(([^)\s]+)\)")

@@ -5,7 +5,7 @@ from itertools import dropwhile, islice
 from typing import Dict, Iterator, List, NamedTuple, Tuple
 
 WIDTH = 100  # of a line that is shown
-KINDS = ("tree", "workflow", "graph", "matrix", "perm", "order", "plan", "priority")
+KINDS = ("tree", "workflow", "graph", "matrix", "perm", "order", "plan", "fences", "priority")
 FORMS = {
     "tree": "a tree file has the lines `tree 1`, `nodes N`, N lines `parent out extra time` (`tree 2`: `parent out extra share time`), and `end`",
     "workflow": "a workflow file has the lines `workflow 1`, `tasks N`, lines `data D`, `task EXTRA TIME` and `par K`, and `end`",
@@ -14,10 +14,11 @@ FORMS = {
     "perm": "a permutation file has each row from 1 on once, the first one to go first",
     "order": "an order file has the numbers of the tasks, in order, and nothing else",
     "plan": "a plan file has the lines `plan 1`, `order N`, N tasks, `peak P`, `claims C`, C claims, and `end`",
+    "fences": "a fence file has the lines `fences 1`, `bound B`, `workers W`, `room L`, `joins J`, J places, `fences K`, K lines `FROM TO`, `amounts N`, N amounts, and `end`",
     "priority": "a priority file has each task from 1 on once, the first one to be preferred",
 }
 # What else a file may be, by its first word: a file that another option takes, or what no option takes.
-OTHER_FILES = {"tree": "tree", "workflow": "workflow", "graph": "graph", "plan": "plan", "%%matrixmarket": "matrix"}
+OTHER_FILES = {"tree": "tree", "workflow": "workflow", "graph": "graph", "plan": "plan", "fences": "fences", "%%matrixmarket": "matrix"}
 OTHER_TEXTS = {
     "peak": "is the report of `post` or `replay`.",
     "refused": "is a refusal, which an earlier run wrote; did `> FILE` write over the input?",

@@ -229,10 +229,16 @@ def permutation_cause(case: Case) -> str:
     return form_of(case.file.kind)
 
 
+def fences_number(case: Case) -> str:
+    """On a line with a word only what follows it can be wrong, and lines without one have numbers alone."""
+    wrong = wrong_token(case.tokens[-1])
+    return f"{wrong}." if wrong else "The place of a join is from 1, and the numbers of joins and fences are below 2^32."
+
+
 def header(case: Case) -> str:
     kind = case.file.kind
     if len(case.tokens) == 2 and case.tokens[0] == kind:
-        return "There are the versions 1 and 2 of this format."
+        return "There is version 1 of this format alone." if kind == "fences" else "There are the versions 1 and 2 of this format."
     first = next(case.file.rows(), (case.line, []))[0]
     if case.line != first:
         return f"This line is not `{SECOND_LINES[kind]}`."
@@ -288,8 +294,14 @@ MEANINGS: Dict[str, object] = {
     "plan priority": "The priority is empty, or has each task once.",
     "plan amount": "An amount is `PLACE AMOUNT`, by rising places from 1: is the number behind `base` or `blocker` right?",
     "plan claim": "A claim is `POSITION F|R BOUND REST`, by rising positions: is the number behind `claims` right?",
+    "fences section": SECTIONS.format("joins J`, `fences K` or `amounts N"),
+    "fences number": fences_number,
+    "fences join": "A join has the place of its item alone: is the number behind `joins` right?",
+    "fences fence": "A fence is `FROM TO`: is the number behind `fences` right?",
+    "fences amount": "Each amount stands on a line of its own: is the number behind `amounts` right?",
+    "fences workers": "There are more workers than there may be, or `workers 0`, which stands for any number of them, has a room that is not 0.",
 }
-for kind in ("tree", "workflow", "graph", "plan"):
+for kind in ("tree", "workflow", "graph", "plan", "fences"):
     MEANINGS[f"{kind} header"] = header
     MEANINGS[f"{kind} no-end"] = NO_END
 for kind in ("perm", "priority"):

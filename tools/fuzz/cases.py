@@ -5,19 +5,22 @@ from pathlib import Path
 from typing import NamedTuple, Optional
 
 from bench import BOUND, USAGE, Bench
+from certificates import Judge
+from certificates import text_of as text_of_certificate
 from evidence import BoundedPlan, evidence_of, text_of
-from models import Tasks, rows, shared_system_of_graph, system_of_tree, system_of_workflow
+from models import SizedTasks, System, rows, shared_of, shared_system_of_graph, system_of_tree, system_of_workflow
 from random_files import (
     changed,
     changed_tokens,
     changed_words,
+    known_order,
     listed,
+    random_certificate,
     random_graph,
     random_matrix,
     random_permutation,
     random_plan,
     random_shared_graph,
-    random_traversal,
     random_tree,
     random_workflow,
 )
@@ -35,11 +38,12 @@ class Case(NamedTuple):
 
 
 class Setting(NamedTuple):
-    """An input as options, its files, and where it is accepted a traversal of it."""
+    """An input as options, its files, and where it is accepted a traversal of it, and its system, which `reduce` does not ask for."""
 
     options: Options
     files: dict[str, bytes]
     order: list[int]
+    system: Optional[SizedTasks] = None
 
 
 def example(draw: random.Random, suffix: str) -> bytes:
@@ -67,32 +71,27 @@ def random_setting(draw: random.Random, bench: Bench, inputs: tuple[str, ...]) -
     kind = draw.choice(inputs)
     if kind == "tree":
         text = random_tree(draw) if draw.random() < 0.85 else example(draw, "tree")
-        return Setting([("--tree", "t")], {"t": text}, known_order(draw, text, system_of_tree))
+        return setting_of(draw, [("--tree", "t")], {"t": text}, system_of_tree(text))
     if kind == "graph":
         text = random_graph(draw) if draw.random() < 0.85 else example(draw, "graph")
         return Setting([("--graph", "g")], {"g": text}, [])
     if kind == "shared graph":
         text = draw.choice([random_shared_graph, random_shared_graph, random_graph])(draw) if draw.random() < 0.85 else example(draw, "graph")
-        return Setting([("--graph", "g")], {"g": text}, known_order(draw, text, shared_system_of_graph))
+        return setting_of(draw, [("--graph", "g")], {"g": text}, shared_system_of_graph(text))
     if kind == "workflow":
         text = random_workflow(draw) if draw.random() < 0.85 else example(draw, "workflow")
-        return Setting([("--workflow", "w")], {"w": text}, known_order(draw, text, system_of_workflow))
+        return setting_of(draw, [("--workflow", "w")], {"w": text}, system_of_workflow(text))
     text = random_matrix(draw) if draw.random() < 0.85 else example(draw, "mtx")
     size = int(next(tokens for tokens in rows(text) if len(tokens) == 3)[0])
     options = [("--matrix", "m"), *matrix_options(draw)]
     files = {"m": text, "q": random_permutation(draw, size)}
     bench.put(files)
     tree = bench.printed(["tree", *(f"{name}={value}" for name, value in options)])
-    return Setting(options, files, known_order(draw, tree, system_of_tree) if tree else [1])
+    return setting_of(draw, options, files, system_of_tree(tree)) if tree else Setting(options, files, [1])
 
 
-def known_order(draw: random.Random, text: bytes, system_of: Callable[[bytes], Tasks]) -> list[int]:
-    """A traversal of what this text reads as, or its numbers where it has none, as the example with a cycle."""
-    system = system_of(text)
-    try:
-        return random_traversal(draw, system)
-    except IndexError:
-        return list(range(1, system.count + 1))
+def setting_of(draw: random.Random, options: Options, files: dict[str, bytes], system: SizedTasks) -> Setting:
+    return Setting(options, files, known_order(draw, system), system)
 
 
 def order_text(draw: random.Random, order: list[int]) -> bytes:
@@ -146,6 +145,13 @@ def simulate_options(draw: random.Random, bench: Bench, setting: Setting) -> Opt
     return options
 
 
+def fence_options(draw: random.Random, bench: Bench, setting: Setting) -> Options:
+    options = replay_options(draw, bench, setting)
+    bound = draw.choice([0, 5, 11, 1000, 2**40, 2**60, 2**64 - 1])
+    options.append(("--bound", str(near_peak(draw, bench, setting, options) if draw.random() < 0.8 else bound)))
+    return options + ([("--workers", draw.choice(["1", "2", "3", "16", "4096"]))] if draw.random() < 0.4 else [])
+
+
 def peak_of(bench: Bench, setting: Setting, options: Options) -> int:
     """The peak of the order, or some number where it has none."""
     bench.put(setting.files)
@@ -179,7 +185,25 @@ def fronts_options(draw: random.Random, bench: Bench, setting: Setting) -> Optio
     return [("--bound", str(bound)), ("--workers", draw.choice(["1", "2", "3", "4096"]))]
 
 
+def fences_text(draw: random.Random, bench: Bench, setting: Setting) -> bytes:
+    """The fences that the program makes of an input, in part with other numbers; or random ones, or those of an example."""
+    if setting.system is None or draw.random() < 0.1:
+        return example(draw, "fences")
+    if draw.random() < 0.4:
+        system = setting.system
+        return text_of_certificate(random_certificate(draw, Judge(shared_of(system) if isinstance(system, System) else system)))
+    options = fence_options(draw, bench, setting)
+    bench.put(setting.files)
+    made = bench.printed(["fence", *(f"{name}={value}" for name, value in setting.options + options)])
+    if made is None:
+        return example(draw, "fences")
+    return made if draw.random() < 0.6 else changed_tokens(draw, made)
+
+
 def check_options(draw: random.Random, bench: Bench, setting: Setting) -> Options:
+    if draw.random() < 0.3:
+        setting.files["f"] = fences_text(draw, bench, setting)
+        return [("--fences", "f")]
     setting.files["p"] = plan_text(draw, bench, setting)
     return [("--plan", "p")] + ([("--workers", draw.choice(["1", "2", "3", "13", "4096"]))] if draw.random() < 0.5 else [])
 
@@ -238,6 +262,7 @@ COMMANDS = {
     "check": Command((*ALL_INPUTS, "shared graph", "shared graph"), check_options),
     "simulate": Command(INPUTS_AND_GRAPHS, simulate_options),
     "spill": Command(INPUTS_AND_GRAPHS, spill_options),
+    "fence": Command(INPUTS_AND_GRAPHS, fence_options),
     "fronts": Command(("matrix",), fronts_options),
     "segments": Command(ALL_INPUTS, no_options),
     "reduce": Command(("graph", "shared graph"), no_options),
@@ -251,6 +276,7 @@ COMMANDS = {
 # Words of commands that the program may not know yet: it is then not asked for them.
 PROBES = {
     "upgrade": ["upgrade", "--tree=t"],
+    "fence": ["fence", "--tree=t", "--order=o", "--bound=0"],
     "fronts": ["fronts", "--matrix=m", "--bound=0", "--workers=1"],
     "reduce": ["reduce", "--graph=g"],
     "bound": ["bound", "--graph=g"],

@@ -395,6 +395,36 @@ def read_amounts(page: Page, count: int) -> None:
         before = place
 
 
+# ---- fences
+
+
+def read_fences(text: bytes) -> int:
+    """The number of fences."""
+    page = Page("fences", text, "no-end")
+    page.test(page.go_on() == [b"fences", b"1"], "header")
+    page.section(b"bound", "section")
+    workers = page.section(b"workers", "section")
+    page.test(workers <= MOST_WORKERS, "workers")
+    page.test(page.section(b"room", "section") == 0 or workers != 0, "workers")
+    read_rows(page, b"joins", "tasks", MOST_TASKS, "join", 1, range(1, 2**32))
+    fences = read_rows(page, b"fences", "positions", MOST_POSITIONS, "fence", 2, range(2**32))
+    read_rows(page, b"amounts", "positions", MOST_POSITIONS, "amount", 1, range(2**64))
+    page.test(page.go_on() == [b"end"], "no-end")
+    page.end("no-end")
+    return fences
+
+
+def read_rows(page: Page, word: bytes, limit: str, most: int, kind: str, width: int, values: range) -> int:
+    """How many lines of so many numbers there are."""
+    count = page.section(word, "section")
+    page.limit(count <= most, limit)
+    for _ in range(count):
+        row = values_of(page.go_on())
+        page.test(row is not None and len(row) == width, kind)
+        page.test(all(it in values for it in row or []), "number")
+    return count
+
+
 def refusal_of(read: Callable[[], int]) -> tuple[int, Optional[str]]:
     """What a reader counts, and the rest of the line after `refused` where it refuses."""
     try:
@@ -557,9 +587,10 @@ WITHOUT_FRONT_OPTIONS = {"fronts"}
 COMMANDS: dict[str, tuple[set[str], list[set[str]], set[str]]] = {
     "replay": ({"tree", "workflow", "matrix", "graph"}, [{"order", "plan"}], set()),
     "plan": ({"tree", "workflow", "matrix", "graph"}, [], {"print", "order", "effort"}),
-    "check": ({"tree", "workflow", "matrix", "graph"}, [{"plan"}], {"workers"}),
+    "check": ({"tree", "workflow", "matrix", "graph"}, [{"plan", "fences"}], {"workers"}),
     "simulate": ({"tree", "workflow", "matrix", "graph"}, [{"order", "plan"}, {"bound"}, {"workers"}], {"priority"}),
     "spill": ({"tree", "workflow", "matrix", "graph"}, [{"order", "plan"}, {"bound"}], set()),
+    "fence": ({"tree", "workflow", "matrix", "graph"}, [{"order", "plan"}, {"bound"}], {"workers"}),
     "fronts": ({"matrix"}, [{"bound"}, {"workers"}], {"perm", "ordering"}),
     "segments": ({"tree", "workflow", "matrix"}, [], set()),
     "reduce": ({"graph"}, [], set()),
@@ -605,6 +636,8 @@ def request_of(words: list[str]) -> Optional[dict[str, str]]:
     if words[0] == "demo" and not is_demo(options):
         return None
     if words[0] == "upgrade" and "priority" in names and "plan" not in names:
+        return None
+    if words[0] == "check" and {"fences", "workers"} <= names:
         return None
     if words[0] == "plan" and names & {"order", "effort"} and "graph" not in names:
         return None

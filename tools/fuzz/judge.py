@@ -26,6 +26,8 @@ from bench import (
     failed,
 )
 from cases import Case
+from certificates import Judge as FenceJudge
+from certificates import certificate_of
 from evidence import BoundedPlan, bounded_plan_of, evidence_of
 from evidence import Judge as EvidenceJudge
 from models import (
@@ -44,6 +46,7 @@ from models import (
     postorder_of,
     reduction_of,
     rows,
+    shared_of,
     shared_system_of_graph,
     system_of_term,
     system_of_tree,
@@ -61,6 +64,7 @@ KINDS = {
     "perm": "number range repeated count",
     "order": "number",
     "plan": "header number section order priority claim amount no-end",
+    "fences": "header section number join fence amount workers no-end",
     "priority": "number range repeated count",
 }
 
@@ -72,11 +76,12 @@ LIMITS = {
     "perm": "bytes",
     "order": "bytes tasks",
     "plan": "bytes tasks positions",
+    "fences": "bytes tasks positions",
     "priority": "bytes",
 }
 
 # The options that make up an input.
-INPUT_OPTIONS = ("tree", "workflow", "matrix", "perm", "ordering", "shape", "amalgamate", "inplace")
+INPUT_OPTIONS = ("tree", "workflow", "graph", "matrix", "perm", "ordering", "shape", "amalgamate", "inplace")
 
 # No more tasks than this are planned by trying all orders.
 FEW = 10
@@ -122,14 +127,17 @@ class Judge:
             return any(re.fullmatch(f"refused {form} {file} ({'|'.join(table[file].split())}){tail}\n", self.text) for file in files)
         order = f"no order {count} (unknown|repeated|too-early|missing)"
         if self.ending.status == BOUND:
-            return self.words[0] in ("simulate", "fronts") and bool(re.fullmatch(f"refused bound {count} {count}\n", self.text))
+            return self.words[0] in ("simulate", "fence", "fronts") and bool(re.fullmatch(f"refused bound {count} {count}\n", self.text))
         if self.ending.status == WORKING_SET:
             return self.words[0] == "spill" and bool(re.fullmatch(f"refused working-set {count} {count} {count}\n", self.text))
         claim = f"no peak {count} {count}|no root {count}|no claim {count} (data|series|par|outside)"
         if "graph" in self.options:
             test = "task|rising|amounts|sizes|open|level"
             claim = f"{claim}|no need (task|low)|no set (empty|base)|no blocker {count} ({test})|no term"
-        lines = {"replay": order, "simulate": order, "spill": order, "bound": order, "check": f"{order}|{claim}"}
+        lines = {"replay": order, "simulate": order, "fence": order, "spill": order, "bound": order, "check": f"{order}|{claim}"}
+        if "fences" in self.options:
+            fences = f"fences (many|cycle {count})|no fence {count} (join|tasks|apart)"
+            lines["check"] = f"no joins (many|items)|no workers room|no {fences}|no amounts (count|total)|no amount {count} (size|limit)|no bound {count}"
         if "graph" in self.options:
             lines["plan"] = order
         return self.words[0] in lines and bool(re.fullmatch(f"({lines[self.words[0]]})\n", self.text))
@@ -141,7 +149,7 @@ class Judge:
         if formats.request_of(self.words) is None:
             return failed(USAGE)
         count = 0
-        for file in ("tree", "workflow", "graph", "matrix", "perm", "order", "plan", "priority"):
+        for file in ("tree", "workflow", "graph", "matrix", "perm", "order", "plan", "fences", "priority"):
             if file not in self.options:
                 continue
             text = self.bench.read(self.options[file])
@@ -150,7 +158,7 @@ class Judge:
             read, refusal = self.read(file, text, count)
             if refusal:
                 return Ending(FORMAT if refusal.startswith("format") else LIMIT, f"refused {refusal}\n".encode(), b"")
-            if file not in ("perm", "order") and (file != "plan" or self.words[0] == "upgrade"):
+            if file not in ("perm", "order", "fences") and (file != "plan" or self.words[0] == "upgrade"):
                 count = read
         return None
 
@@ -172,6 +180,7 @@ class Judge:
             "graph": formats.read_graph_of_either_version,
             "order": formats.read_order,
             "plan": formats.read_bounded_plan if self.is_check_of_graph() else formats.read_plan,
+            "fences": formats.read_fences,
         }
         return formats.refusal_of(partial(readers[file], text))
 
@@ -210,6 +219,29 @@ class Judge:
         elif "plan" in self.options:
             priority = plan_of(self.file("plan")).priority or order
         yield from self.expect(Simulation(system, order, priority, bound, int(self.options["workers"])).report())
+
+    def fence_ends(self) -> Iterator[str]:
+        system, order = system_of(self.bench, self.options), self.asked_order()
+        bound = int(self.options["bound"])
+        fault = system.fault(order)
+        if fault or system.peak(order) > bound:
+            yield from self.expect(fault or f"refused bound {bound} {system.peak(order)}\n")
+            return
+        if self.ending.status != DONE or formats.refusal_of(partial(formats.read_fences, self.ending.report))[1]:
+            yield "this is no file of fences"
+            return
+        made = certificate_of(self.ending.report)
+        if (made.bound, made.workers) != (bound, int(self.options.get("workers", 0))):
+            yield "these are fences for another bound, or other workers"
+        if (verdict := self.fence_judge().verdict(made)) != f"yes {bound}\n":
+            yield f"the fences have an objection: {verdict}"
+        self.bench.write("made", self.ending.report)
+        if self.bench.run(["check", *input_words(self.options), "--fences=made"]) != Ending(DONE, verdict.encode(), b""):
+            yield "check does not say yes to the fences"
+
+    def fence_judge(self) -> FenceJudge:
+        system = system_of(self.bench, self.options)
+        return FenceJudge(shared_of(system) if isinstance(system, System) else system)
 
     def spill_ends(self) -> Iterator[str]:
         system, order = system_of(self.bench, self.options), self.asked_order()
@@ -329,6 +361,9 @@ class Judge:
             yield f"a bound of {bound}"
 
     def check_ends(self) -> Iterator[str]:
+        if "fences" in self.options:
+            yield from self.expect(self.fence_judge().verdict(certificate_of(self.file("fences"))))
+            return
         if self.is_check_of_graph():
             plan = bounded_plan_of(self.file("plan"))
             if plan.word != "claims":

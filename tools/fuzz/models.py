@@ -55,6 +55,7 @@ class SizedTasks(Tasks):
     def __init__(self, tasks: list[tuple[int, int, int]], made: list[int]) -> None:
         """Tasks are their extra, share and time; each makes so much."""
         super().__init__(len(tasks))
+        self.tasks = tasks
         self.times = [time for _, _, time in tasks]
         self.needs = [extra + out - share for (extra, share, _), out in zip(tasks, made)]
 
@@ -428,7 +429,7 @@ class SharedSystem(SizedTasks):
     def __init__(self, tasks: list[tuple[int, int, int]], items: list[SharedItem]) -> None:
         """Tasks are their extra, share and time."""
         super().__init__(tasks, [sum(item.size for item in items if item.maker == task) for task in range(len(tasks))])
-        self.tasks, self.items = tasks, items
+        self.items = items
         for item in items:
             for reader in item.readers if item.maker is not None else []:
                 self.suppliers[reader].add(item.maker)
@@ -488,6 +489,11 @@ def shared_system_of_graph(text: bytes) -> SharedSystem:
         size, maker, *readers = values if version == "2" else [values[2], values[0], *filter(None, [values[1]])]
         items.append(SharedItem(size, maker - 1 if maker else None, [reader - 1 for reader in readers]))
     return SharedSystem(tasks, items)
+
+
+def shared_of(system: System) -> SharedSystem:
+    """The same system, in which each item has one reader or none."""
+    return SharedSystem(system.tasks, [SharedItem(size, maker, [] if taker is None else [taker]) for size, maker, taker in system.items])
 
 
 def collected(system: SharedSystem) -> Graph:

@@ -2,7 +2,8 @@
 import random
 import re
 
-from models import Graph, Tasks
+from certificates import Certificate, Judge, Link
+from models import Graph, System, Tasks
 
 
 def small(draw: random.Random) -> int:
@@ -196,6 +197,29 @@ def random_traversal(draw: random.Random, system: Tasks) -> list[int]:
         done |= 1 << task
         order.append(task + 1)
     return order
+
+
+def known_order(draw: random.Random, system: Tasks) -> list[int]:
+    """A traversal, or the numbers of the tasks where there is none, as in the example with a cycle."""
+    try:
+        return random_traversal(draw, system)
+    except IndexError:
+        return list(range(1, system.count + 1))
+
+
+def random_certificate(draw: random.Random, judge: Judge) -> Certificate:
+    """Fences that leave an order, random amounts, and a bound at or round what they certify, for any number of workers or a few."""
+    arcs = [[0, start - 1 if start else None, end - 1 if end else None] for _, start, end in judge.links]
+    whole = known_order(draw, System([(0, 0, 1)] * judge.count, arcs))
+    before = ((start, end) for place, end in enumerate(whole) for start in whole[:place] if end <= judge.system.count)
+    fences = [fence for fence in before if draw.random() < 0.2]
+    links = [*judge.links, *(Link(0, start, end) for start, end in fences)]
+    most = max([link.size for link in links], default=0)
+    amounts = [link.size + draw.choice([0, 0, 1, draw.randint(0, most)]) for link in links]
+    workers = draw.choice([0, 0, 1, 2, 3])
+    room = draw.randint(0, max([0, *judge.system.needs])) if workers else 0
+    bound = judge.certified(links, amounts, room) + workers * room
+    return Certificate(max(0, bound + draw.choice([-1, 0, 0, 1])), workers, room, judge.places, fences, amounts)
 
 
 def random_plan(draw: random.Random, order: list[int], peak: int) -> bytes:

@@ -38,6 +38,12 @@ check --workflow branches.workflow --plan branches.plan --workers 2
 simulate --tree five.tree --order five.order --bound 11 --workers 2
 simulate --tree four.tree --order four.order --priority four.priority --bound 6 --workers 1
 simulate --tree five.tree --plan five.plan --bound 22 --workers 4096
+fence --tree five.tree --order five.order --bound 11
+fence --workflow branches.workflow --order branches.order --bound 13 --workers 2
+fence --graph shared.graph --order shared.order --bound 16
+fence --graph four.graph --order four.order --bound 14 --workers 3
+check --tree five.tree --fences five.fences
+check --graph shared.graph --fences shared.fences
 spill --tree five.tree --order five.order --bound 10
 spill --workflow branches.workflow --order branches.order --bound 12
 replay --graph shared.graph --order shared.order
@@ -76,6 +82,9 @@ replay --tree five.tree --order two.order
 replay --tree five.tree --order none
 check --tree four.tree --plan five.plan
 simulate --tree five.tree --order five.order --bound 10 --workers 2
+fence --tree five.tree --order five.order --bound 10
+check --tree four.tree --fences five.fences
+check --tree five.tree --fences shared.fences
 spill --tree five.tree --order five.order --bound 9
 simulate --graph shared.graph --order shared.order --bound 15 --workers 2
 spill --graph shared.graph --order shared.order --bound 11

@@ -11,7 +11,7 @@ from pathlib import Path
 ROOT = Path(__file__).resolve().parents[2]
 SCRIPT = ROOT / "tools/check_facts.py"
 FOLDERS = ["tools", "python/memplan", *(f"crates/{it}" for it in ("judging", "requests", "limits", "c_calls"))]
-FOLDERS += [f"crates/{it}_files" for it in ("tree", "workflow", "graph", "matrix", "plan")]
+FOLDERS += [f"crates/{it}_files" for it in ("tree", "workflow", "graph", "matrix", "plan", "fence")]
 FILES = ["c/memplan.h", "fortran/memplan.f90", "docs/FORMATS.md"]
 
 JUDGING, CALLS, REQUESTS, LIMITS = "crates/judging", "crates/c_calls", "crates/requests/src", "crates/limits"
@@ -44,6 +44,7 @@ REFUSALS = [
     ("crates/matrix_files/specs/OrderKinds.antt", r'order_file_word order_files.Number = codes "number"', 'order_file_word order_files.Number = codes "no"', "Number is no and not number"),
     ("crates/matrix_files/specs/OrderKinds.antt", r'perm_word perms.Range = codes "range"', 'perm_word perms.Range = codes "ranges"', "Range is ranges and not range"),
     ("crates/plan_files/specs/Kinds.antt", r"word_of Claim", "word_of Claims", "Claim is missing and not claim, Claims is claim and not there"),
+    ("crates/fence_files/specs/Kinds.antt", r"word_of Join", "word_of Joins", "Join is missing and not join, Joins is join and not there"),
     (PAGE, r"\| the parents of each node lead to a root \| `cycle` \|", "| the parents of each node lead to a root | `ring` |", "'Tree files': cycle is missing and not tree, ring is tree and not there"),
     (PAGE, r"\| `stack-short` \|", "| |", "'Workflow files': stack-short is missing"),
     (PAGE, r"\n\| \| the share of each task is[^\n]*", "", "'Task graph files': share is missing"),
@@ -51,9 +52,10 @@ REFUSALS = [
     (PAGE, r"## Permutation files", "## Files of permutations", "'Permutation files': there is none"),
     (PAGE, r"\| each token \| a number below 2\^32 \| `number` \|", "| each token | a number below 2^32 | `range` |", "'Order files': number is missing"),
     (PAGE, r"\| claim \| four tokens, the second is `F` or `R` \| `claim` \|", "| claim | four tokens | `section`, `token` |", "'Plan files': token is plan and not there"),
+    (PAGE, r"\| fence \| two numbers \| `fence` \|", "| fence | two numbers | `join` |", "'Fence files': fence is missing and not fences"),
     *(
         ("tools/explaining/formats.py", rf'"{kind} {word}"', f'"{kind} 0"', f"tools/explaining/formats.py, {kind}: 0 is {kind} and not there, {word} is missing")
-        for kind, word in (("tree", "parent"), ("workflow", "word"), ("graph", "arc"), ("matrix", "banner"), ("order", "number"), ("plan", "claim"))
+        for kind, word in (("tree", "parent"), ("workflow", "word"), ("graph", "arc"), ("matrix", "banner"), ("order", "number"), ("plan", "claim"), ("fences", "join"))
     ),
     ("tools/explaining/formats.py", r'"number", "count", "range", "repeated"', '"number", "count", "range"', "tools/explaining/formats.py, perm: repeated is missing"),
     ("tools/explaining/formats.py", r'\("perm", "priority"\)', '("perm",)', "tools/explaining/formats.py, priority: there is none"),
@@ -67,6 +69,7 @@ REFUSALS = [
             ("perm", "count", "perm"),
             ("order", "number", "order"),
             ("plan", "claim", "plan"),
+            ("fences", "amount", "fences"),
             ("priority", "count", "perm"),
         )
     ),

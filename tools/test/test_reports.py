@@ -11,6 +11,8 @@ A file of rows says in its first line what they show. It has tables of these kin
 - `[[plan]]`: an `input`, as words, and the `peak` of its plan, which is accepted with it and replayed to it. `made` are files that runs print.
 - `[[graph_plan]]`: `words` after `plan`, with the graph as file `g`; the `peak` of the plan and its `bound`, and the word of its `evidence`.
   `check` of it says that the peak is least, or above the bound, and the JSON of it says the same.
+- `[[fenced]]`: an `input`, and what is `asked` of `fence` beside it, as words; the `bound` and the `workers` of the file that it prints. `check`
+  of that says yes.
 - `[texts]` and `[runs]`: texts and lists of runs by their names. A string that begins with `@` names one; those of shared.toml are known
   to all files.
 
@@ -81,6 +83,19 @@ class GraphPlan(NamedTuple):
     peak: int
     bound: int
     evidence: str
+
+
+class Fenced(NamedTuple):
+    """An input, what is asked of `fence` beside it, and the bound and the workers of what it prints."""
+
+    input: str
+    asked: str
+    files: dict[str, File]
+    bound: int
+    workers: int
+
+
+Test = Row | Plan | GraphPlan | Fenced
 
 
 class Ran(NamedTuple):
@@ -180,10 +195,15 @@ def graph_plan_of(told: dict[str, Any], names: Names) -> GraphPlan:
     return GraphPlan(told["words"], names.files_of(told["files"]), told["peak"], told["bound"], told["evidence"])
 
 
-def read(text: str, shared: str) -> Iterator[tuple[str, Row | Plan | GraphPlan]]:
+def fenced_of(told: dict[str, Any], names: Names) -> Fenced:
+    check_keys(told, "input asked files bound", "workers")
+    return Fenced(told["input"], told["asked"], names.files_of(told["files"]), told["bound"], told.get("workers", 0))
+
+
+def read(text: str, shared: str) -> Iterator[tuple[str, Test]]:
     """What a file of rows has, each with a name: its kind and its number, and for those of a cut a further number."""
     tables = tomllib.loads(text)
-    check_keys(tables, "", "row cut plan graph_plan texts runs")
+    check_keys(tables, "", "row cut plan graph_plan fenced texts runs")
     names = Names({}, {}).and_those_of(tomllib.loads(shared)).and_those_of(tables)
     for number, told in enumerate(tables.get("row", []), 1):
         yield f"row {number}", row_of(told, names)
@@ -194,9 +214,11 @@ def read(text: str, shared: str) -> Iterator[tuple[str, Row | Plan | GraphPlan]]
         yield f"plan {number}", plan_of(told, names)
     for number, told in enumerate(tables.get("graph_plan", []), 1):
         yield f"graph_plan {number}", graph_plan_of(told, names)
+    for number, told in enumerate(tables.get("fenced", []), 1):
+        yield f"fenced {number}", fenced_of(told, names)
 
 
-def all_rows() -> Iterator[tuple[str, Row | Plan | GraphPlan]]:
+def all_rows() -> Iterator[tuple[str, Test]]:
     """What all files have."""
     shared = SHARED.read_text(encoding="utf-8")
     for file in sorted(set(FOLDER.glob("*.toml")) - {SHARED}):
@@ -231,7 +253,7 @@ class Place:
 class RowTest(unittest.TestCase):
     """A row is as the program has it."""
 
-    def __init__(self, name: str = "", row: Optional[Row | Plan | GraphPlan] = None) -> None:
+    def __init__(self, name: str = "", row: Optional[Test] = None) -> None:
         super().__init__("check")
         self.name, self.row = name, row
 
@@ -245,6 +267,8 @@ class RowTest(unittest.TestCase):
                 self.check_plan(self.row, place)
             elif isinstance(self.row, GraphPlan):
                 self.check_graph_plan(self.row, place)
+            elif isinstance(self.row, Fenced):
+                self.check_fenced(self.row, place)
             else:
                 self.check_runs(self.row, place)
 
@@ -270,7 +294,6 @@ class RowTest(unittest.TestCase):
         self.assertEqual(self.printed(place, f"check {plan.input} --plan made"), f"yes {plan.peak}\n".encode())
         self.assertEqual(self.printed(place, f"replay {plan.input} --plan made"), f"peak {plan.peak}\n".encode())
 
-
     def check_graph_plan(self, plan: GraphPlan, place: Place) -> None:
         text = self.printed(place, f"plan {plan.words}")
         place.put("made", text)
@@ -287,6 +310,14 @@ class RowTest(unittest.TestCase):
         self.assertEqual([told["order"], told["peak"], told["bound"]], [[int(task) for task in order], plan.peak, plan.bound])
         self.assertEqual(list(told["evidence"]), [plan.evidence])
 
+    def check_fenced(self, row: Fenced, place: Place) -> None:
+        words = f"fence {row.input} {row.asked}"
+        text = self.printed(place, words)
+        head = f"fences 1\nbound {row.bound}\nworkers {row.workers}\n"
+        self.assertTrue(text.startswith(head.encode()), f"memplan {words}: it does not begin with {head!r}")
+        place.put("made", text)
+        self.assertEqual(self.printed(place, f"check {row.input} --fences made"), f"yes {row.bound}\n".encode())
+
 
 # ---- whether a wrong row is found
 
@@ -296,6 +327,7 @@ UNASKED = Row(["replay"], {}, 2, "", "memplan: usage\n")
 PLANNED = Plan("--tree t", ONE, {}, 9)
 GRAPH = {"g": "graph 1\ntasks 1\n7 0 1\narcs 1\n1 0 2\nend\n"}
 GRAPH_PLANNED = GraphPlan("--graph g", GRAPH, 9, 9, "claims")
+FENCED = Fenced("--tree t", "--order o --bound 12", ONE, 12, 0)
 TWICE = Row(["demo --seed 1 --tasks 9"] * 2, {}, 0, "\ncheck yes\nend\n", is_end=True)
 
 ROWS = """
@@ -311,12 +343,12 @@ prints = "peak 9\\n"
 
 
 class WrongRows(unittest.TestCase):
-    def check_refused(self, row: Row | Plan | GraphPlan) -> None:
+    def check_refused(self, row: Test) -> None:
         with self.assertRaises(AssertionError):
             RowTest("", row).debug()
 
     def test_right_ones_pass(self) -> None:
-        for row in (RIGHT, UNASKED, PLANNED, GRAPH_PLANNED, TWICE):
+        for row in (RIGHT, UNASKED, PLANNED, GRAPH_PLANNED, FENCED, TWICE):
             RowTest("", row).debug()
 
     def test_another_status(self) -> None:
@@ -350,6 +382,12 @@ class WrongRows(unittest.TestCase):
         self.check_refused(GRAPH_PLANNED._replace(peak=8))
         self.check_refused(GRAPH_PLANNED._replace(bound=8))
         self.check_refused(GRAPH_PLANNED._replace(evidence="need"))
+
+    def test_another_bound_and_other_workers(self) -> None:
+        self.check_refused(FENCED._replace(bound=11))
+        self.check_refused(FENCED._replace(workers=2))
+        self.check_refused(FENCED._replace(asked="--order o --bound 8"))
+        self.check_refused(FENCED._replace(input="--graph t"))
 
 
 class FilesOfRows(unittest.TestCase):
