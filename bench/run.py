@@ -10,8 +10,8 @@ and runs memplan and the peers in turn. A whole run takes some 20 minutes and 3 
 It can be stopped at any time: what is measured stands in FOLDER (bench/out), and the next run of
 the same programs goes on from there; --anew forgets it. --quick tries every line on small inputs,
 in some seconds; its figures mean nothing. --only makes some tables alone, of reading, replay,
-analysis, mindeg, post, plan, hard, check, simulate, spill, fronts, segments, reduce, graphs, growth;
---growth names the numbers of tasks of the last one.
+analysis, mindeg, post, plan, hard, check, simulate, fences, spill, fronts, segments, reduce, graphs,
+growth; --growth names the numbers of tasks of the last one.
 
 Of each program the least of N turns (5) counts; a row that has taken 4 N seconds of processor time
 has no further turn after its second one. Each run has SECONDS (100) of processor time. Where
@@ -282,8 +282,11 @@ class Tables:
         return found
 
     def planned_to(self, words: list[str], to: Path) -> None:
+        self.printed_to(["plan", *words], to)
+
+    def printed_to(self, words: list[str], to: Path) -> None:
         with open(to, "wb") as out:
-            subprocess.run([self.program, "plan", *words], stdout=out, check=True)
+            subprocess.run([self.program, *words], stdout=out, check=True)
 
     def alone(
         self, row: str, found: list[tuple[str, list[list[str]]]], names: list[str]
@@ -329,6 +332,25 @@ class Tables:
             found.append((label, [[*base, "--workers", it] for it in workers]))
         names = ["1 worker", "16 workers", "4,096 workers"]
         return self.alone_table("simulate", "`simulate`, in twice the peak", found, names)
+
+    def fences(self) -> str:
+        """Fences for any number of workers and for 16, and the check of the first ones."""
+        asked = []
+        for label, words, plan, peak in self.planned():
+            bound = str(peak + peak // 2)
+            asked.append((label, words, ["fence", *words, "--plan", plan, "--bound", bound]))
+        found = [(label, [line, [*line, "--workers", "16"]]) for label, _, line in asked]
+        names = ["any number of workers", "16 workers"]
+        made = self.alone_table("fence", "`fence`, in half again the peak", found, names)
+        return f"{made}\n{self.checked_fences(asked)}" if made else ""
+
+    def checked_fences(self, asked: list[tuple[str, list[str], list[str]]]) -> str:
+        found = []
+        for label, words, line in asked:
+            made = lambda to: self.printed_to(line, to)
+            fences = self.inputs.made(f"{Path(words[1]).name}.fences", made)
+            found.append((label, [["check", *words, "--fences", fences]]))
+        return self.alone_table("check of fences", "`check` of these fences", found, [""])
 
     def spill(self) -> str:
         """Where one task alone needs the whole peak, nothing has to go to disk."""
@@ -491,6 +513,7 @@ class Tables:
             "hard": ("Growth on shapes that are hard for a planner", self.hard),
             "check": ("Checks", self.check),
             "simulate": ("Simulated runs", self.simulate),
+            "fences": ("Fences", self.fences),
             "spill": ("Spill plans", self.spill),
             "fronts": ("Fronts in rounds", self.fronts),
             "segments": ("Segments", self.segments),
