@@ -23,6 +23,11 @@ POSTORDER = "peak 15\norder 5\n1\n2\n3\n4\n5\nend\n"
 SOURCE = "crates/limits/src/lib.rt"
 TEST = "crates/limits_tests/src/tests.rt"
 
+# What runs in the background of a script ignores these, and so would all that it starts: the signals that are sent here would end nothing.
+for number in (signal.SIGINT, signal.SIGHUP, signal.SIGQUIT):
+    if signal.getsignal(number) == signal.SIG_IGN:
+        signal.signal(number, signal.SIG_DFL)
+
 # What stands in for rt: it says what the real one says, and its build takes so long, or fails so, as the folder's files tell.
 STAND_IN = """#!/bin/bash
 at=$PWD
