@@ -1,6 +1,6 @@
 //! The judge of what looking at states shows.
 
-ghost use Rattle.std.specs.Prelude.{◌≡◌, ◌↔◌, ◌≤◌, ℕ, true, IfOk, MatchOption};
+ghost use Rattle.std.specs.Prelude.{◌≡◌, ◌↔◌, ◌≤◌, ℕ, ◌*◌, true, IfOk, MatchOption};
 ghost use Rattle.state_search.specs.Shown.{HaveRoom, IsShownByStates, IsStatesObjection, visits_of};
 
 use crate::NoMemory;
@@ -49,19 +49,32 @@ fn have_room(system: &SharedSystem, most: u32) -> bool
     marks <= MOST_MARKS && visits <= MOST_VISITS
 }
 
-/// So many states, or as many of them as have room.
+// So many states, or the greatest number of them that have at most `all` together, where each has `each`.
+fn most_within(most: u32, each: u64, all: u64) -> u32
+    ensures fits { result * each ≤ all }
+    ensures most { result ≤ most }
+    ensures greatest { (other : ℕ) → other ≤ most → other * each ≤ all → other ≤ result }
+{
+    if each == 0 {
+        most
+    } else {
+        u64::from(most).min(all / each) as u32
+    }
+}
+
+/// So many states, or where they have no room the greatest number of states that have it.
 pub fn most_states(system: &SharedSystem, most: u32) -> u32
     ensures room { HaveRoom system.now result }
     ensures most { result ≤ most }
+    ensures greatest { (other : ℕ) → other ≤ most → HaveRoom system.now other → other ≤ result }
 {
-    let by_marks = MOST_MARKS / (system.tasks().len() as u64).max(1);
-    let by_visits = MOST_VISITS / visits_of(system).max(1);
-    u64::from(most).min(by_marks).min(by_visits) as u32
+    let by_marks = most_within(most, system.tasks().len() as u64, MOST_MARKS);
+    most_within(by_marks, visits_of(system), MOST_VISITS)
 }
 
 /// Whether looking at so many states shows that no order of a system has a peak below a bound: no more than `most` are looked at, and the start
-/// is none of them. If not, why: `Room`, where so many have no room, and none is looked at; else `Order`, where an order with a peak below the bound
-/// was found, or `Many`, where more than `most` are looked at. Time and memory are those of [`explore`](crate::explore).
+/// is none of them. If not, why: `Room`, where so many have no room, and none is looked at; else `Order`, where an order has a peak below the bound,
+/// or `Many`, where more than `most` are looked at; where both are so, either of them. Time and memory are those of [`explore`](crate::explore).
 pub fn judge_states(
     alloc: Global,
     system: &SharedSystem,

@@ -240,10 +240,12 @@ fn most_of(system: Option<SharedSystem>, most: u32) -> Option<u32> {
     Some(most_states(&system?, most))
 }
 
+// Of a system without tasks any number of states has no mark at all.
 #[test]
 fn no_more_states_than_have_room(rt: HostRuntime) {
     let alloc = rt.alloc();
     assert_eq!(rt; most_of(crowd(alloc), 4_294_967_295), Some(42_949_672));
     assert_eq!(rt; most_of(pairs(alloc), 4_294_967_295), Some(22_369_621));
     assert_eq!(rt; most_of(pairs(alloc), 7), Some(7));
+    assert_eq!(rt; most_of(idle(alloc), 4_294_967_295), Some(4_294_967_295));
 }
