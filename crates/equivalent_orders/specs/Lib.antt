@@ -1,0 +1,3 @@
+pub mod Fronts
+pub mod Orders
+pub mod Samples
