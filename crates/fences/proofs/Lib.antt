@@ -21,3 +21,4 @@ pub mod SharedProgress
 pub mod Relieving
 pub mod RelievedFences
 pub mod Certifying
+pub mod Before

@@ -73,7 +73,7 @@ module _ (system : SharedTaskSystem) (fences : List Fence) where
             (λ s. subst (Started system fences moment.done) (sym (eqb-true u v s)) (is.running v runs)) (or_cases (moment.done u) (eqb u v) e));
       }
 
-  next_is : (moment : Moment) (change : Change) → IsFencedMoment system fences moment → CanComeFenced system fences moment change
+  pub next_is : (moment : Moment) (change : Change) → IsFencedMoment system fences moment → CanComeFenced system fences moment change
       → IsFencedMoment system fences (moment_after moment change)
   next_is moment (starts v) is can = start_is moment v is can
   next_is moment (ends v) is can = end_is moment v is can
@@ -83,7 +83,9 @@ module _ (system : SharedTaskSystem) (fences : List Fence) where
   all_are moment [] rest is run = is
   all_are moment (change ∷ before) rest is run = all_are (moment_after moment change) before rest (next_is moment change is run.0) run.1
 
+  pub first_is : IsFencedMoment system fences first_moment
+  first_is = record { once = λ v e. absurd cc; running = λ v e. absurd cc; done = λ v e. absurd cc }
+
   pub run_is : (before rest : List Change) → IsFencedRunFrom system fences first_moment (before ++ rest)
       → IsFencedMoment system fences (moment_after_all first_moment before)
-  run_is before rest run =
-      all_are first_moment before rest (record { once = λ v e. absurd cc; running = λ v e. absurd cc; done = λ v e. absurd cc }) run
+  run_is before rest run = all_are first_moment before rest first_is run

@@ -8,5 +8,7 @@ pub mod JudgedFences
 pub mod Workers
 pub mod SharedRuns
 pub mod Certificates
+pub mod Implied
+pub mod Before
 pub mod TaskSums
 pub mod Samples

@@ -1,6 +1,7 @@
 //! Amounts that are handed on, and what they are refused with; the bounds are worked by hand.
 
 mod certificates;
+mod implied;
 
 use fences::{
     AmountTest, AmountsRefusal, Fence, FenceTest, FencesRefusal, judge_amounts, judge_fences,
