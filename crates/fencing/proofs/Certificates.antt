@@ -1,5 +1,6 @@
 -- Fences for the collected system make a certificate of the shared one.
-use Rattle.std.proofs.Common.{◌≡◌, ℕ, ◌-◌, ◌<◌, ◌≤◌, Option, List, [], ◌∷◌, length, map, refl, ap, arith, ⊎_elim}
+use Rattle.std.proofs.Common.{◌≡◌, ℕ, ◌-◌, ◌<◌, ◌≤◌, Option, Some, List, [], ◌∷◌, length, map, refl, subst, ap, arith, ⊎_elim}
+use Rattle.std.specs.Prelude.{MatchOption}
 use Rattle.lists.proofs.Orders.{lt_or_le}
 use Rattle.mp_system.specs.declared.system.Task.{Task}
 use Rattle.mp_system.specs.System.{TaskSystem, IsSystem, IsTask, need_of}
@@ -30,8 +31,18 @@ same_tasks : (tasks : List Task) → map (relieved_task 0) tasks ≡ tasks
 same_tasks [] = refl
 same_tasks (task ∷ tasks) = rw (same_task task, same_tasks tasks) refl
 
-same_system : (system : TaskSystem) → relieved 0 system ≡ system
+pub same_system : (system : TaskSystem) → relieved 0 system ≡ system
 same_system system = ap (λ (tasks : List Task). record { tasks = tasks; items = system.items }) (same_tasks system.tasks)
+
+-- ---- what is made is the collected system
+
+pub is_collected : (system : SharedTaskSystem) (made : Option TaskSystem) (own : TaskSystem) → made ≡ Some own
+    → MatchOption made (¬ HasRoom system) (λ s. s ≡ collected system) → own ≡ collected system
+is_collected system made own is h = subst (λ (o : Option TaskSystem). MatchOption o (¬ HasRoom system) (λ s. s ≡ collected system)) is h
+
+pub has_room : (system : SharedTaskSystem) (made : Option TaskSystem) (own : TaskSystem) → made ≡ Some own
+    → MatchOption made (¬ HasRoom system) (λ s. HasRoom system) → HasRoom system
+has_room system made own is h = subst (λ (o : Option TaskSystem). MatchOption o (¬ HasRoom system) (λ s. HasRoom system)) is h
 
 -- ---- why none is made
 

@@ -10,3 +10,4 @@ pub mod Certifying
 pub mod Joins
 pub mod Certificates
 pub mod Reserves
+pub mod BySizes

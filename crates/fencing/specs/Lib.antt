@@ -3,3 +3,4 @@ pub mod Takings
 pub mod Refusal
 pub mod Asked
 pub mod Rooms
+pub mod Standing

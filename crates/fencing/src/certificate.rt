@@ -72,8 +72,8 @@ impl From<FencingRefusal> for CertifyingRefusal {
     }
 }
 
-// The places of the items with several readers, from 1.
-fn join_places(alloc: Global, items: &SharedItems) -> Result<Vec<u32>, NoMemory>
+/// The places of the items with several readers, from 1.
+pub fn join_places(alloc: Global, items: &SharedItems) -> Result<Vec<u32>, NoMemory>
     requires { length items.now ≤ most_positions }
     ensures { IfOk result (λ places. places.items ≡ join_places_from 1 items.now) }
 {

@@ -1,58 +1,53 @@
-//! Good fences along an order, by a search that promises nothing: what it finds is judged before it is used.
+//! Good fences along a schedule, by a search that promises nothing: what it finds is judged before it is used.
 //!
-//! Memory is handed on along the order, as in `ledger`, with more care for who hands it on. A task first takes what is free at tasks that it waits
-//! for anyway, also by way of others and by way of fences, which costs no fence; then out of the pool; and then of those who will end first, so
-//! that it need not wait long. Of these it waits for the latest first, since that one may come after others of them. Chaining in project planning
-//! is from N. Policella, A. Cesta, A. Oddi and S. F. Smith, "Generating robust partial order schedules", 2004; memory on arcs of a task graph is
-//! from L. Marchal, B. Simon and F. Vivien, "Limiting the memory footprint when dynamically scheduling DAGs on shared-memory platforms", 2018.
+//! Memory is handed on along the schedule, as in `ledger`, with more care for who hands it on. A task first takes what is free at tasks that it
+//! waits for anyway, also by way of others and by way of fences, which costs no fence; then out of the pool; and then of those who will end first,
+//! so that it need not wait long. Of these it waits for the latest first, since that one may come after others of them. Chaining in project
+//! planning is from N. Policella, A. Cesta, A. Oddi and S. F. Smith, "Generating robust partial order schedules", 2004; memory on arcs of a task
+//! graph is from L. Marchal, B. Simon and F. Vivien, "Limiting the memory footprint when dynamically scheduling DAGs on shared-memory platforms",
+//! 2018.
 
 use crate::NoMemory;
 use crate::fencing::Fencing;
 use crate::network::Network;
+use crate::schedule::{Event, Schedule};
 use fences::Fence;
 use std::alloc::Global;
 use std::cmp::Reverse;
 use std::collections::BinaryHeap;
 
-// How many tasks are looked at in search of free memory, and how many more behind fences.
-const LOOKS: u32 = 50;
+// How many tasks are looked at in search of free memory, at least and at most, and in all searches together where there are many. Half as many
+// more are looked at behind fences.
+const LEAST_LOOKS: u64 = 8;
 
-const MORE_LOOKS: u32 = 25;
+const MOST_LOOKS: u64 = 20;
 
-// How many arcs of one task are followed.
-const MOST_ARCS: usize = 200;
+const LOOKS_IN_ALL: u64 = 4_000_000;
 
-/// Fences, and when the last task ends on as many workers as one likes, by the times of the tasks.
-#[derive(Drop)]
-pub struct Chain {
-    pub fencing: Fencing,
-    pub end: u64,
-}
+// How many arcs of one task are followed, and how many tasks are found at most beside those that a task waits for by an item.
+const MOST_ARCS: usize = 50;
 
-// What is known of a task or a collector.
+const MOST_FOUND: usize = 200;
+
+// The places of the fences into a task.
 #[derive(Clone, Copy)]
-struct Node {
-    // What is left of what it gave back, and when it ends.
-    free: u64,
-    end: u64,
-    // The places of the fences into it.
-    first_fence: usize,
-    last_fence: usize,
-    // Its place in the list of what was found.
-    place: usize,
-    // The last task for which readers of a collector were found, and how many.
-    readers_for: u32,
-    readers: usize,
+struct FencesInto {
+    first: usize,
+    end: usize,
 }
 
-const NO_NODE: Node = Node {
-    free: 0,
-    end: 0,
-    first_fence: 0,
-    last_fence: 0,
-    place: 0,
-    readers_for: 0,
-    readers: 0,
+const NO_FENCES: FencesInto = FencesInto { first: 0, end: 0 };
+
+// The last task for which readers of a collector were found, and how many.
+#[derive(Clone, Copy)]
+struct Readers {
+    found_for: u32,
+    count: usize,
+}
+
+const NO_READERS: Readers = Readers {
+    found_for: 0,
+    count: 0,
 };
 
 // Who gave something back. The first to end is the least.
@@ -76,17 +71,31 @@ const NOT_FOUND: Found = Found {
     to: 0,
 };
 
+// What is handed on along a fence.
+#[derive(Clone, Copy, PartialEq, Eq, PartialOrd, Ord)]
+struct Handed {
+    amount: u64,
+    fence: usize,
+}
+
 // What has been handed on so far, and the search for what one task takes. Arcs are numbered from 0, first the items, behind them the fences.
 #[derive(Drop)]
 struct Chaining<'a> {
     network: &'a Network<'a>,
-    nodes: Vec<Node>,
-    // For each the last task for which it was found.
-    found_for: Vec<u32>,
+    // What is left of what each gave back, and when it ends.
+    free: Vec<u64>,
+    ends: Vec<u64>,
+    fences_into: Vec<FencesInto>,
+    readers: Vec<Readers>,
+    // For each the last search in which it was found, and its place in the list of what was found.
+    found_in: Vec<u32>,
+    places: Vec<usize>,
     fences: Vec<Fence>,
     // What is handed on along each arc.
     amounts: Vec<u64>,
     pool: u64,
+    // What all tasks take that have not started.
+    still_taken: u64,
     heap: BinaryHeap<Reverse<Piece>>,
     // The task that comes next, when it can start, and what it still lacks.
     task: u32,
@@ -94,35 +103,80 @@ struct Chaining<'a> {
     lacking: u64,
     // What it waits for, as far as it was found; itself first, and a task always behind the one that its arc leads to. What stands before `next`
     // has been looked at.
+    search: u32,
     found: Vec<Found>,
     next: usize,
-    looks: u32,
+    looks: u64,
+    most_looks: u64,
     popped: Vec<Piece>,
+    // Collectors of which all readers were found.
+    collectors: Vec<Found>,
+}
+
+// How many tasks are looked at in one search.
+fn looks_for(network: &Network) -> u64 {
+    let size = network.len().saturating_add(network.items().len()).max(1);
+    (LOOKS_IN_ALL / size as u64).clamp(LEAST_LOOKS, MOST_LOOKS)
 }
 
 impl<'a> Chaining<'a> {
-    fn new(alloc: Global, network: &'a Network<'a>, pool: u64) -> Result<Chaining<'a>, NoMemory> {
+    fn new(
+        alloc: Global,
+        network: &'a Network<'a>,
+        pool: u64,
+        still_taken: u64,
+    ) -> Result<Chaining<'a>, NoMemory> {
         let amounts: Vec<u64> = network.items().iter().map(|item| item.size).collect(alloc)?;
+        let count = network.len();
         Ok(Chaining {
             network,
-            nodes: vec![in alloc; NO_NODE; network.len()]?,
-            found_for: vec![in alloc; 0; network.len()]?,
+            free: vec![in alloc; 0; count]?,
+            ends: vec![in alloc; 0; count]?,
+            fences_into: vec![in alloc; NO_FENCES; count]?,
+            readers: vec![in alloc; NO_READERS; count]?,
+            found_in: vec![in alloc; 0; count]?,
+            places: vec![in alloc; 0; count]?,
             fences: Vec::new(alloc),
             amounts,
             pool,
+            still_taken,
             heap: BinaryHeap::new(alloc),
             task: 0,
             start: 0,
             lacking: 0,
+            search: 0,
             found: Vec::new(alloc),
             next: 0,
             looks: 0,
+            most_looks: looks_for(network),
             popped: Vec::new(alloc),
+            collectors: Vec::new(alloc),
         })
     }
 
-    fn node(&self, task: u32) -> Node {
-        self.nodes.get(task as usize).copied().unwrap_or(NO_NODE)
+    fn free_at(&self, task: u32) -> u64 {
+        self.free.get(task as usize).copied().unwrap_or(0)
+    }
+
+    fn set_free(&mut self, task: u32, free: u64) {
+        if let Some(place) = self.free.get_mut(task as usize) {
+            *place = free;
+        }
+    }
+
+    fn end_of(&self, task: u32) -> u64 {
+        self.ends.get(task as usize).copied().unwrap_or(0)
+    }
+
+    fn place_of(&self, task: u32) -> usize {
+        self.places.get(task as usize).copied().unwrap_or(0)
+    }
+
+    fn fences_of(&self, task: u32) -> FencesInto {
+        self.fences_into
+            .get(task as usize)
+            .copied()
+            .unwrap_or(NO_FENCES)
     }
 
     fn found_at(&self, place: usize) -> Found {
@@ -147,18 +201,17 @@ impl<'a> Chaining<'a> {
     // Takes what is free at a task that was found, or as much of it as is lacking.
     fn take(&mut self, place: usize) {
         let task = self.found_at(place).task;
-        let amount = self.node(task).free.min(self.lacking);
+        let free = self.free_at(task);
+        let amount = free.min(self.lacking);
         if amount > 0 {
-            if let Some(node) = self.nodes.get_mut(task as usize) {
-                node.free = node.free.saturating_sub(amount);
-            }
+            self.set_free(task, free.saturating_sub(amount));
             self.lacking = self.lacking.saturating_sub(amount);
             self.raise(place, amount);
         }
     }
 
     fn is_found(&self, task: u32) -> bool {
-        self.found_for.get(task as usize).copied() == Some(self.task)
+        self.found_in.get(task as usize).copied() == Some(self.search)
     }
 
     // Notes a task that is found, if it was not found before.
@@ -166,12 +219,11 @@ impl<'a> Chaining<'a> {
         if self.is_found(found.task) {
             return Ok(());
         }
-        if let Some(found_for) = self.found_for.get_mut(found.task as usize) {
-            *found_for = self.task;
+        if let Some(found_in) = self.found_in.get_mut(found.task as usize) {
+            *found_in = self.search;
         }
-        let place = self.found.len();
-        if let Some(node) = self.nodes.get_mut(found.task as usize) {
-            node.place = place;
+        if let Some(place) = self.places.get_mut(found.task as usize) {
+            *place = self.found.len();
         }
         self.found.push(found)?;
         Ok(())
@@ -181,16 +233,19 @@ impl<'a> Chaining<'a> {
     fn find_before(&mut self, to: usize, most: usize) -> Result<(), NoMemory> {
         let network = self.network;
         let waiting = self.found_at(to).task;
-        for place in network.inputs(waiting).iter().take(most) {
-            let arc = *place as usize;
-            if let Some(task) = network.producer(*place) {
-                self.find(Found { task, arc, to })?;
-            }
+        for arc in network.arcs(waiting).iter().take(most) {
+            self.find(Found {
+                task: arc.from,
+                arc: arc.place as usize,
+                to,
+            })?;
         }
-        let node = self.node(waiting);
-        for k in (node.first_fence..node.last_fence).take(most) {
-            if let Some(fence) = self.fences.get(k).copied() {
-                let arc = network.items().len().saturating_add(k);
+        let FencesInto { first, end } = self.fences_of(waiting);
+        for k in (first..end).take(most) {
+            let arc = network.items().len().saturating_add(k);
+            if let Some(fence) = self.fences.get(k).copied()
+                && self.amounts.get(arc).copied().unwrap_or(0) > 0
+            {
                 self.find(Found {
                     task: fence.from,
                     arc,
@@ -207,10 +262,10 @@ impl<'a> Chaining<'a> {
         let arc = self.amounts.len();
         self.fences.push(Fence { from, to: task })?;
         self.amounts.push(0)?;
-        if let Some(node) = self.nodes.get_mut(task as usize) {
-            node.last_fence = node.last_fence.saturating_add(1);
+        if let Some(fences) = self.fences_into.get_mut(task as usize) {
+            fences.end = fences.end.saturating_add(1);
         }
-        self.start = self.start.max(self.node(from).end);
+        self.start = self.start.max(self.end_of(from));
         let place = self.found.len();
         self.find(Found {
             task: from,
@@ -223,17 +278,17 @@ impl<'a> Chaining<'a> {
 
     // Notes that a reader was found: whether it is the last one that the collector waits for.
     fn is_last_reader(&mut self, collector: u32) -> bool {
-        let task = self.task;
+        let search = self.search;
         let all = self.network.readers(collector);
-        let Some(node) = self.nodes.get_mut(collector as usize) else {
+        let Some(readers) = self.readers.get_mut(collector as usize) else {
             return false;
         };
-        if node.readers_for != task {
-            node.readers_for = task;
-            node.readers = 0;
+        if readers.found_for != search {
+            readers.found_for = search;
+            readers.count = 0;
         }
-        node.readers = node.readers.saturating_add(1);
-        node.readers == all
+        readers.count = readers.count.saturating_add(1);
+        readers.count == all
     }
 
     // A collector of which all readers were found comes before the task anyway, so that a fence from it costs no time. Readers are counted only
@@ -242,9 +297,8 @@ impl<'a> Chaining<'a> {
         let network = self.network;
         for place in network.collected(reader).iter().take(MOST_ARCS) {
             let collector = network.consumer(*place);
-            let node = self.node(collector);
             if self.lacking > 0
-                && node.free > 0
+                && self.free_at(collector) > 0
                 && !self.is_found(collector)
                 && network.is_reading(*place)
                 && self.is_last_reader(collector)
@@ -265,7 +319,9 @@ impl<'a> Chaining<'a> {
             self.next = place.saturating_add(1);
             self.looks = self.looks.saturating_sub(1);
             self.take(place);
-            self.find_before(place, MOST_ARCS)?;
+            if self.found.len() < MOST_FOUND {
+                self.find_before(place, MOST_ARCS)?;
+            }
             self.find_collectors(self.found_at(place).task)?;
         }
         Ok(())
@@ -281,40 +337,41 @@ impl<'a> Chaining<'a> {
     fn pop(&mut self) -> Result<(), NoMemory> {
         self.popped.clear();
         let mut sum: u64 = 0;
-        for _ in 0..self.nodes.len() {
+        for _ in 0..self.free.len() {
             if sum >= self.lacking {
                 break;
             }
             let Some(Reverse(piece)) = self.heap.pop() else {
                 break;
             };
-            let node = self.node(piece.task);
-            if self.is_found(piece.task) {
-                self.take(node.place);
-            } else {
-                sum = sum.saturating_add(node.free);
+            let free = self.free_at(piece.task);
+            if free > 0 {
+                if self.is_found(piece.task) {
+                    self.take(self.place_of(piece.task));
+                } else {
+                    sum = sum.saturating_add(free);
+                }
+                self.popped.push(piece)?;
             }
-            self.popped.push(piece)?;
         }
         Ok(())
     }
 
     // Takes from those that were popped, the latest first. What is left goes back.
     fn take_popped(&mut self) -> Result<(), NoMemory> {
-        self.looks = self.looks.max(MORE_LOOKS);
+        self.looks = self.looks.max(self.most_looks / 2);
         for k in (0..self.popped.len()).rev() {
             let task = self.popped.get(k).map_or(0, |piece| piece.task);
-            let node = self.node(task);
             if self.is_found(task) {
-                self.take(node.place);
-            } else if self.lacking > 0 && node.free > 0 {
+                self.take(self.place_of(task));
+            } else if self.lacking > 0 && self.free_at(task) > 0 {
                 self.fence(task)?;
                 self.search()?;
             }
         }
         for k in 0..self.popped.len() {
             if let Some(piece) = self.popped.get(k).copied()
-                && self.node(piece.task).free > 0
+                && self.free_at(piece.task) > 0
             {
                 self.heap.push(Reverse(piece))?;
             }
@@ -325,25 +382,29 @@ impl<'a> Chaining<'a> {
     // When the last ends of those by whose items a task waits.
     fn latest_before(&self, task: u32) -> u64 {
         let mut latest: u64 = 0;
-        for place in self.network.inputs(task) {
-            if let Some(producer) = self.network.producer(*place) {
-                latest = latest.max(self.node(producer).end);
-            }
+        for arc in self.network.arcs(task) {
+            latest = latest.max(self.end_of(arc.from));
         }
         latest
     }
 
-    // Takes what the task lacks. All tasks that it waits for by an item are found, however many they are.
-    fn take_all(&mut self) -> Result<(), NoMemory> {
+    // Begins a search behind a task, by so many items and fences at most.
+    fn begin(&mut self, task: u32, most: usize) -> Result<(), NoMemory> {
+        self.search = self.search.saturating_add(1);
         self.found.clear();
-        self.looks = LOOKS;
         self.next = 1;
+        self.looks = self.most_looks;
         self.find(Found {
-            task: self.task,
+            task,
             arc: 0,
             to: 0,
         })?;
-        self.find_before(0, usize::MAX)?;
+        self.find_before(0, most)
+    }
+
+    // Takes what the task lacks. All tasks that it waits for by an item are found, however many they are.
+    fn take_all(&mut self) -> Result<(), NoMemory> {
+        self.begin(self.task, usize::MAX)?;
         self.search()?;
         self.draw();
         if self.lacking > 0 {
@@ -353,65 +414,169 @@ impl<'a> Chaining<'a> {
         Ok(())
     }
 
-    // The task ends, and gives back what it does not leave.
-    fn give(&mut self, taken: u64) -> Result<(), NoMemory> {
-        let task = self.task;
-        let free = self.network.given(task, taken);
-        let end = self.start.saturating_add(self.network.time(task));
-        if let Some(node) = self.nodes.get_mut(task as usize) {
-            node.free = free;
-            node.end = end;
-        }
-        if free > 0 {
-            self.heap.push(Reverse(Piece { end, task }))?;
-        }
-        Ok(())
-    }
-
-    // Runs a task: when it ends, if there was as much as it takes.
-    fn run(&mut self, task: u32, room: u64) -> Result<Option<u64>, NoMemory> {
+    // Starts a task: whether there is as much as it takes. Where the pool has what all that have not started take, it gives.
+    fn start(&mut self, task: u32, room: u64) -> Result<bool, NoMemory> {
         self.task = task;
         self.start = self.latest_before(task);
         let taken = self.network.taken(task, room);
         self.lacking = taken;
         let fences = self.fences.len();
-        if let Some(node) = self.nodes.get_mut(task as usize) {
-            node.first_fence = fences;
-            node.last_fence = fences;
+        if let Some(into) = self.fences_into.get_mut(task as usize) {
+            *into = FencesInto {
+                first: fences,
+                end: fences,
+            };
         }
-        if taken > 0 {
+        if self.pool >= self.still_taken {
+            self.draw();
+        } else if taken > 0 {
             self.take_all()?;
         }
-        if self.lacking > 0 {
-            return Ok(None);
+        self.still_taken = self.still_taken.saturating_sub(taken);
+        let end = self.start.saturating_add(self.network.time(task));
+        if let Some(place) = self.ends.get_mut(task as usize) {
+            *place = end;
         }
-        self.give(taken)?;
-        Ok(Some(self.node(task).end))
+        Ok(self.lacking == 0)
+    }
+
+    // A task or a collector ends, at this time if it is known, and gives back what it does not leave.
+    fn end(&mut self, task: u32, room: u64, at: Option<u64>) -> Result<(), NoMemory> {
+        if let Some(at) = at
+            && let Some(end) = self.ends.get_mut(task as usize)
+        {
+            *end = at;
+        }
+        let taken = self.network.taken(task, room);
+        let free = self.network.given(task, taken);
+        self.set_free(task, free);
+        if free > 0 {
+            let end = self.end_of(task);
+            self.heap.push(Reverse(Piece { end, task }))?;
+        }
+        Ok(())
+    }
+
+    // What is handed on along a fence, by its place.
+    fn handed(&self, fence: usize) -> u64 {
+        let arc = self.network.items().len().saturating_add(fence);
+        self.amounts.get(arc).copied().unwrap_or(0)
+    }
+
+    fn set_handed(&mut self, fence: usize, amount: u64) {
+        let arc = self.network.items().len().saturating_add(fence);
+        if let Some(handed) = self.amounts.get_mut(arc) {
+            *handed = amount;
+        }
+    }
+
+    // Whether what is free at tasks that a task waits for, and in the pool, is as much as it lacks.
+    fn has_enough(&mut self, task: u32) -> Result<bool, NoMemory> {
+        self.begin(task, MOST_FOUND)?;
+        let mut sum = self.pool;
+        for _ in 0..self.looks {
+            if sum >= self.lacking || self.next >= self.found.len() {
+                break;
+            }
+            let place = self.next;
+            self.next = place.saturating_add(1);
+            sum = sum.saturating_add(self.free_at(self.found_at(place).task));
+            if self.found.len() < MOST_FOUND {
+                self.find_before(place, MOST_ARCS)?;
+            }
+        }
+        Ok(sum >= self.lacking)
+    }
+
+    // Drops a fence if what it hands on is free elsewhere.
+    fn try_drop(&mut self, place: usize) -> Result<(), NoMemory> {
+        let Some(fence) = self.fences.get(place).copied() else {
+            return Ok(());
+        };
+        let amount = self.handed(place);
+        let free = self.free_at(fence.from);
+        self.set_handed(place, 0);
+        self.set_free(fence.from, free.saturating_add(amount));
+        self.lacking = amount;
+        if self.has_enough(fence.to)? {
+            for k in 1..self.next {
+                self.take(k);
+            }
+            self.draw();
+        } else {
+            self.set_handed(place, amount);
+            self.set_free(fence.from, free);
+        }
+        Ok(())
+    }
+
+    // Drops fences that are not needed, those that hand on least first.
+    fn thin(&mut self, alloc: Global) -> Result<(), NoMemory> {
+        let mut handed = Vec::new(alloc);
+        for fence in 0..self.fences.len() {
+            let amount = self.handed(fence);
+            handed.push(Handed { amount, fence })?;
+        }
+        handed.sort_unstable();
+        for one in handed.iter() {
+            self.try_drop(one.fence)?;
+        }
+        Ok(())
+    }
+
+    // The fences that hand on something, with their amounts behind those of the items.
+    fn fencing(&self, alloc: Global) -> Result<Fencing, NoMemory> {
+        let items = self.network.items().len();
+        let mut amounts: Vec<u64> = self.amounts.iter().take(items).copied().collect(alloc)?;
+        let mut fences = Vec::new(alloc);
+        for place in 0..self.fences.len() {
+            let amount = self.handed(place);
+            if let Some(fence) = self.fences.get(place).copied()
+                && amount > 0
+            {
+                fences.push(fence)?;
+                amounts.push(amount)?;
+            }
+        }
+        Ok(Fencing { fences, amounts })
     }
 }
 
-/// Fences along an order, where each task needs less by the room of its worker, and the bound is what is left beside all rooms. None where memory
-/// is lacking, as it is below the order's peak.
+// What all tasks take together.
+fn taken_by_all(network: &Network, room: u64) -> u64 {
+    let mut sum: u64 = 0;
+    for task in network.order {
+        sum = sum.saturating_add(network.taken(*task, room));
+    }
+    sum
+}
+
+/// Fences along a schedule, where each task needs less by the room of its worker, and the bound is what is left beside all rooms. None where
+/// memory is lacking, as it is below the schedule's peak.
 pub fn chain_along(
     alloc: Global,
     network: &Network,
+    schedule: &Schedule,
     room: u64,
     bound: u64,
-) -> Result<Option<Chain>, NoMemory> {
+) -> Result<Option<Fencing>, NoMemory> {
     let Some(pool) = bound.checked_sub(network.stock()) else {
         return Ok(None);
     };
-    let mut chaining = Chaining::new(alloc, network, pool)?;
-    let mut end: u64 = 0;
-    for task in network.order {
-        let Some(ended) = chaining.run(*task, room)? else {
-            return Ok(None);
-        };
-        end = end.max(ended);
+    let mut chaining = Chaining::new(alloc, network, pool, taken_by_all(network, room))?;
+    for event in schedule.events.iter() {
+        match *event {
+            Event::Start(task) => {
+                if !chaining.start(task, room)? {
+                    return Ok(None);
+                }
+            }
+            Event::End(task, at) => {
+                let at = if schedule.timed { Some(at) } else { None };
+                chaining.end(task, room, at)?;
+            }
+        }
     }
-    let fencing = Fencing {
-        fences: chaining.fences,
-        amounts: chaining.amounts,
-    };
-    Ok(Some(Chain { fencing, end }))
+    chaining.thin(alloc)?;
+    Ok(Some(chaining.fencing(alloc)?))
 }

@@ -11,21 +11,37 @@
 //! of workers or for at most so many. For these, room is set aside for each, and the fences that are left are fewer.
 //! A search looks for better fences there: it promises nothing, and what it finds is judged.
 //!
-//! The definitions stand in specs/: `Refusal`, what an order and a bound are refused with; `Asked`, for how many workers; `Needs`, what a task
-//! takes, `Takings`, how memory is handed on, and `Rooms`; what fences, amounts and certificates are, in `fences`.
+//! [`standing_certificate`] makes a certificate that forbids no run: of a bound that a system as it stands never passes, the least that a search
+//! for a least flow finds.
+//!
+//! The definitions stand in specs/: `Refusal`, what an order and a bound are refused with; `Asked`, for how many workers; `Standing`, certificates
+//! that forbid no run; `Needs`, what a task takes, `Takings`, how memory is handed on, and `Rooms`; what fences, amounts and certificates are, in
+//! `fences`.
 #![tactic(auto)]
 
 mod along;
+mod backwards;
 mod certificate;
 mod chain;
 mod choosing;
 mod fencing;
+mod followers;
+mod handing;
+mod improving;
+mod least_flow;
+mod least_room;
 mod ledger;
+mod max_flow;
 mod network;
 mod rooms;
+mod schedule;
+mod simulating;
+mod standing;
+mod waiting;
 
 pub use certificate::{CertifyingRefusal, certificate_along};
 pub use fencing::{Fencing, FencingRefusal, fence_along};
+pub use standing::standing_certificate;
 use std::alloc::AllocError;
 
 /// Want of memory: an allocation was refused.

@@ -3,7 +3,9 @@
 ghost use Rattle.std.specs.Prelude.{◌≡◌, ◌+◌, length, IfOk};
 
 use crate::NoMemory;
-use mp_system::{Item, System, Task};
+use crate::followers::Followers;
+use fences::Fence;
+use mp_system::{Item, System};
 use row_table::RowTable;
 use row_table::laws::numbers_law;
 use std::alloc::Global;
@@ -20,9 +22,26 @@ const NO_SUMS: Sums = Sums {
     outputs: 0,
 };
 
-const NO_TASK: Task = Task {
-    extra: 0,
-    share: 0,
+/// An arc into a task or a collector: by which item, and from where.
+#[derive(Clone, Copy)]
+pub struct Arc {
+    pub place: u32,
+    pub from: u32,
+}
+
+// What a task or a collector needs while it runs, beside what it consumes, and how long it runs.
+#[derive(Clone, Copy)]
+struct Demand {
+    need: u64,
+    inputs: u64,
+    outputs: u64,
+    time: u64,
+}
+
+const NO_DEMAND: Demand = Demand {
+    need: 0,
+    inputs: 0,
+    outputs: 0,
     time: 0,
 };
 
@@ -36,7 +55,11 @@ pub struct Network<'a> {
     // The places of the items that each consumes, and of those from each to a collector.
     inputs: RowTable,
     collected: RowTable,
-    sums: Vec<Sums>,
+    // Where the arcs into each begin, and the arcs.
+    starts: Vec<usize>,
+    arcs: Vec<Arc>,
+    followers: Followers,
+    demands: Vec<Demand>,
 }
 
 // Which tasks produce the items for collectors, and 0 for other items.
@@ -80,6 +103,76 @@ fn sums_of(alloc: Global, system: &System) -> Result<Vec<Sums>, NoMemory> {
     Ok(sums)
 }
 
+// The arcs into each, and where those of each begin.
+fn arcs_of(
+    alloc: Global,
+    system: &System,
+    inputs: &RowTable,
+) -> Result<(Vec<usize>, Vec<Arc>), NoMemory> {
+    let mut starts = Vec::new(alloc);
+    let mut arcs = Vec::new(alloc);
+    let mut task: u32 = 0;
+    for _ in 0..system.tasks().len().saturating_add(1) {
+        starts.push(arcs.len())?;
+        for place in row_of(inputs, task) {
+            if let Some(
+                Item {
+                    from: Some(from),
+                    ..
+                },
+            ) = system.items().get(*place as usize).copied()
+            {
+                arcs.push(Arc {
+                    place: *place,
+                    from,
+                })?;
+            }
+        }
+        task = task.saturating_add(1);
+    }
+    starts.push(arcs.len())?;
+    Ok((starts, arcs))
+}
+
+// Who waits for whom by an item.
+fn followers_of(alloc: Global, system: &System) -> Result<Followers, NoMemory> {
+    let mut waits = Vec::new(alloc);
+    for item in system.items() {
+        if let Some(from) = item.from
+            && let Some(to) = item.to
+        {
+            waits.push(Fence { from, to })?;
+        }
+    }
+    Followers::new(alloc, &waits, system.tasks().len().saturating_add(1))
+}
+
+// What each needs, by its number; behind so many tasks stand collectors, which take no time.
+fn demands_of(
+    alloc: Global,
+    system: &System,
+    sums: &[Sums],
+    count: u32,
+) -> Result<Vec<Demand>, NoMemory> {
+    let mut demands = Vec::new(alloc);
+    demands.push(NO_DEMAND)?;
+    let mut number: u32 = 0;
+    for task in system.tasks() {
+        number = number.saturating_add(1);
+        let Sums { inputs, outputs } = sums.get(number as usize).copied().unwrap_or(NO_SUMS);
+        demands.push(Demand {
+            need: task
+                .extra
+                .saturating_add(outputs)
+                .saturating_sub(task.share),
+            inputs,
+            outputs,
+            time: if number > count { 0 } else { task.time },
+        })?;
+    }
+    Ok(demands)
+}
+
 fn row_of(rows: &RowTable, task: u32) -> &[u32] {
     if (task as usize) < rows.len() {
         rows.row(task)
@@ -96,14 +189,50 @@ impl<'a> Network<'a> {
         order: &'a [u32],
         count: u32,
     ) -> Result<Network<'a>, NoMemory> {
+        let inputs = input_rows(alloc, system)?;
+        let sums = sums_of(alloc, system)?;
+        let (starts, arcs) = arcs_of(alloc, system, &inputs)?;
+        let demands = demands_of(alloc, system, &sums, count)?;
         Ok(Network {
             system,
             order,
             count,
-            inputs: input_rows(alloc, system)?,
+            inputs,
             collected: collected_rows(alloc, system, count)?,
-            sums: sums_of(alloc, system)?,
+            starts,
+            arcs,
+            followers: followers_of(alloc, system)?,
+            demands,
         })
+    }
+
+    /// The arcs into a task or a collector.
+    pub fn arcs(&self, task: u32) -> &[Arc] {
+        let place = task as usize;
+        let start = self.starts.get(place).copied().unwrap_or(0);
+        let end = self
+            .starts
+            .get(place.saturating_add(1))
+            .copied()
+            .unwrap_or(0);
+        self.arcs.get(start..end).unwrap_or(&[])
+    }
+
+    /// Those that wait for a task or a collector by an item.
+    pub fn followers(&self, task: u32) -> &[u32] {
+        self.followers.of(task)
+    }
+
+    /// Whether it is a collector.
+    pub fn is_collector(&self, task: u32) -> bool {
+        task > self.count
+    }
+
+    fn demand(&self, task: u32) -> Demand {
+        self.demands
+            .get(task as usize)
+            .copied()
+            .unwrap_or(NO_DEMAND)
     }
 
     /// The numbers of tasks and collectors are below this.
@@ -149,21 +278,9 @@ impl<'a> Network<'a> {
         self.items().get(place as usize)?.from
     }
 
-    fn task(&self, task: u32) -> Task {
-        let place = (task as usize).saturating_sub(1);
-        self.system.tasks().get(place).copied().unwrap_or(NO_TASK)
-    }
-
-    fn sums(&self, task: u32) -> Sums {
-        self.sums.get(task as usize).copied().unwrap_or(NO_SUMS)
-    }
-
     /// How long it runs; a collector takes no time.
     pub fn time(&self, task: u32) -> u64 {
-        if task > self.count {
-            return 0;
-        }
-        self.task(task).time
+        self.demand(task).time
     }
 
     /// How long all tasks run together.
@@ -177,17 +294,38 @@ impl<'a> Network<'a> {
 
     /// What a task takes, where it needs less by the room of its worker.
     pub fn taken(&self, task: u32, room: u64) -> u64 {
-        let Task { extra, share, .. } = self.task(task);
-        let Sums { inputs, outputs } = self.sums(task);
-        let need = extra.saturating_add(outputs).saturating_sub(share);
+        let Demand {
+            need,
+            inputs,
+            outputs,
+            ..
+        } = self.demand(task);
         need.saturating_sub(room)
             .max(outputs.saturating_sub(inputs))
     }
 
     /// What a task gives back that took so much.
     pub fn given(&self, task: u32, taken: u64) -> u64 {
-        let Sums { inputs, outputs } = self.sums(task);
+        let Demand {
+            inputs,
+            outputs,
+            ..
+        } = self.demand(task);
         inputs.saturating_add(taken).saturating_sub(outputs)
+    }
+
+    /// The order's peak where each task needs less by the room of its worker.
+    pub fn peak(&self, room: u64) -> u64 {
+        let mut memory = self.stock();
+        let mut peak = memory;
+        for task in self.order {
+            let taken = self.taken(*task, room);
+            peak = peak.max(memory.saturating_add(taken));
+            memory = memory
+                .saturating_add(taken)
+                .saturating_sub(self.given(*task, taken));
+        }
+        peak
     }
 
     /// The memory at the start.

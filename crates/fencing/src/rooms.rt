@@ -26,8 +26,8 @@ pub struct Chosen {
     pub fencing: Fencing,
 }
 
-// No room is set aside.
-fn without_room(asked: Option<u32>) -> Workers
+/// No room is set aside.
+pub fn without_room(asked: Option<u32>) -> Workers
     ensures workers { IsFor asked result }
     ensures room { room_of result ≡ 0 }
     ensures reserve { reserve_of result ≡ 0 }

@@ -1,6 +1,7 @@
 //! Fences along orders. The fences, the amounts and what they certify are worked by hand, and `judge_fences` judges them besides.
 
 mod certificates;
+mod standing;
 
 use fences::{Fence, judge_fences};
 use fencing::{FencingRefusal, fence_along};

@@ -148,7 +148,7 @@ fn two_workers_need_no_fence(rt: HostRuntime) -> Result<(), Fail> {
     Ok(())
 }
 
-// 3 waits for 1 by way of 2, so it takes what 1 gave back with no fence.
+// 3 waits for 1 by way of 2, so it takes what 1 gave back with no fence. Within 20 there is room for all tasks at once, and nothing is handed on.
 const OF_LINE: &[Certified] = &[
     (10, None, Workers::Any, &[], &[], &[10, 10]),
     (
@@ -160,7 +160,7 @@ const OF_LINE: &[Certified] = &[
         &[10, 10],
     ),
     (15, None, Workers::Any, &[], &[], &[10, 10]),
-    (20, None, Workers::Any, &[], &[], &[10, 10]),
+    (20, None, Workers::Any, &[], &[], &[0, 0]),
 ];
 
 #[test]
@@ -176,7 +176,7 @@ fn memory_from_two_arcs_away(rt: HostRuntime) -> Result<(), Fail> {
     Ok(())
 }
 
-// 4 waits for both readers of the 10 that 1 makes, so what the join, task 5, gives back costs it no time.
+// 4 waits for both readers of the 10 that 1 makes, so what the join, task 5, gives back costs it no time. From 20 on it needs none of that.
 const OF_JOIN: &[Certified] = &[
     (
         10,
@@ -187,13 +187,14 @@ const OF_JOIN: &[Certified] = &[
         &[10, 0, 0, 0, 0, 0, 0, 10],
     ),
     (
-        20,
+        19,
         None,
         Workers::Any,
         &[1],
         &[(5, 4)],
         &[10, 0, 0, 0, 0, 0, 0, 10],
     ),
+    (20, None, Workers::Any, &[1], &[], &[10, 0, 0, 0, 0, 0, 0]),
 ];
 
 #[test]

@@ -1,25 +1,13 @@
-use Rattle.std.proofs.Common.{◌≡◌, ℕ, ◌≤◌, Option, Some, List, ap, refl, subst, ◌∙◌, arith}
-use Rattle.std.specs.Prelude.{MatchOption}
+use Rattle.std.proofs.Common.{◌≡◌, ℕ, ◌≤◌, List, ap, refl, subst, ◌∙◌, arith}
 use Rattle.std.proofs.lemmas.Result.{err_from_is_err_and}
 use Rattle.mp_system.specs.System.{TaskSystem, IsSystem}
-use Rattle.shared_systems.specs.Shared.{SharedTaskSystem}
 use Rattle.shared_systems.specs.SharedMemory.{shared_peak_of}
-use Rattle.shared_systems.specs.Collected.{HasRoom, collected}
 use Rattle.fences.specs.Certificates.{join_places_from}
 use Rattle.fences.specs.Workers.{relieved}
 use Rattle.fencing.specs.Refusal.{IsFencingRefusal}
 use Rattle.fencing.specs.Rooms.{Suits}
-use Rattle.fencing.proofs.Certificates.{by_fencing, certifies}
+use Rattle.fencing.proofs.Certificates.{by_fencing, certifies, has_room, is_collected}
 use Rattle.fencing.proofs.certificate.certificate_along.Goals as goal
-
--- what is made is the collected system
-is_collected : (system : SharedTaskSystem) (made : Option TaskSystem) (own : TaskSystem) → made ≡ Some own
-    → MatchOption made (¬ HasRoom system) (λ s. s ≡ collected system) → own ≡ collected system
-is_collected system made own is h = subst (λ (o : Option TaskSystem). MatchOption o (¬ HasRoom system) (λ s. s ≡ collected system)) is h
-
-has_room : (system : SharedTaskSystem) (made : Option TaskSystem) (own : TaskSystem) → made ≡ Some own
-    → MatchOption made (¬ HasRoom system) (λ s. HasRoom system) → HasRoom system
-has_room system made own is h = subst (λ (o : Option TaskSystem). MatchOption o (¬ HasRoom system) (λ s. HasRoom system)) is h
 
 pub returns-in_err-workers-clause-refused : goal.returns-in_err-workers-clause-refused
 returns-in_err-workers-clause-refused c =
