@@ -30,7 +30,7 @@ class Command(NamedTuple):
     options: Tuple[Option, ...]
     # of each group, with `|` between, exactly one is given
     one_of: Tuple[str, ...]
-    # the first is given only beside the second, which may be an option with a value
+    # the first is given only beside the second, which may be an option with a value, or several with `|` between, of which exactly one is given
     only_with: Tuple[Tuple[str, str], ...]
     prints: str
     # its own statuses; all commands share the others
@@ -186,8 +186,8 @@ COMMANDS: Tuple[Command, ...] = (
     ),
     Command(
         name="fence",
-        purpose="fences that keep every parallel run within a bound on memory",
-        usage="(INPUT | --graph FILE) (--order FILE | --plan FILE) --bound B [--workers W]",
+        purpose="fences that keep every parallel run within a bound on memory, or what no run passes without any",
+        usage="(INPUT | --graph FILE) [--bound B [--order FILE | --plan FILE]] [--workers W]",
         options=(
             *INPUT,
             GRAPH,
@@ -196,12 +196,13 @@ COMMANDS: Tuple[Command, ...] = (
             BOUND,
             Option("workers", "W", "for runs on at most W workers, 1 to 4096; on any number of them without it", 1, 4096),
         ),
-        one_of=("tree|workflow|matrix|graph", "order|plan", "bound"),
-        only_with=OF_A_MATRIX,
+        one_of=("tree|workflow|matrix|graph",),
+        only_with=(*OF_A_MATRIX, ("order", "bound"), ("plan", "bound")),
         prints="a fence file: each fence is a line `FROM TO`, by which task TO waits for task FROM, or for all readers of an item. From its amounts "
         "follows that no run on so many workers that keeps to the fences passes the bound, whatever starts the tasks, and however long they take; "
-        "and none comes to a stop",
-        statuses={1: NO_TRAVERSAL, 5: "the bound is below the peak of the order"},
+        "and none comes to a stop. With a bound and no order, the order is planned, as `plan` does. Without a bound, the file has one that no run passes as "
+        "the tasks stand: its fences forbid no run",
+        statuses={1: NO_TRAVERSAL, 5: "the bound is below the peak of the order, or of the plan"},
         example=("fence --tree examples/five.tree --order examples/five.order --bound 16 | head -n 2", "fences 1\nbound 16"),
     ),
     Command(

@@ -8,7 +8,7 @@ declare -A usage_of=(
     [tree]=MATRIX
     [fronts]='--matrix FILE [--perm FILE | --ordering natural|mindeg] --bound B --workers W'
     [simulate]='(INPUT | --graph FILE) (--order FILE | --plan FILE) --bound B --workers W [--priority FILE]'
-    [fence]='(INPUT | --graph FILE) (--order FILE | --plan FILE) --bound B [--workers W]'
+    [fence]='(INPUT | --graph FILE) [--bound B [--order FILE | --plan FILE]] [--workers W]'
     [spill]='(INPUT | --graph FILE) (--order FILE | --plan FILE) --bound B'
     [segments]=INPUT
     [reduce]='--graph FILE'
@@ -40,7 +40,7 @@ declare -A one_of=(
     [tree]=matrix
     [fronts]='matrix bound workers'
     [simulate]='tree|workflow|matrix|graph order|plan bound workers'
-    [fence]='tree|workflow|matrix|graph order|plan bound'
+    [fence]='tree|workflow|matrix|graph'
     [spill]='tree|workflow|matrix|graph order|plan bound'
     [segments]='tree|workflow|matrix'
     [reduce]=graph
@@ -56,7 +56,7 @@ declare -A only_with=(
     [tree]=''
     [fronts]=''
     [simulate]='perm:matrix ordering:matrix shape:matrix amalgamate:matrix inplace:matrix'
-    [fence]='perm:matrix ordering:matrix shape:matrix amalgamate:matrix inplace:matrix'
+    [fence]='perm:matrix ordering:matrix shape:matrix amalgamate:matrix inplace:matrix order:bound plan:bound'
     [spill]='perm:matrix ordering:matrix shape:matrix amalgamate:matrix inplace:matrix'
     [segments]='perm:matrix ordering:matrix shape:matrix amalgamate:matrix inplace:matrix'
     [reduce]=''
@@ -376,10 +376,11 @@ END
             ;;
         fence)
             cat <<'END'
-memplan fence: fences that keep every parallel run within a bound on memory
+memplan fence: fences that keep every parallel run within a bound on memory, or
+what no run passes without any
 
-usage: memplan fence (INPUT | --graph FILE) (--order FILE | --plan FILE)
---bound B [--workers W]
+usage: memplan fence (INPUT | --graph FILE) [--bound B [--order FILE | --plan
+FILE]] [--workers W]
 INPUT is TREE, or --workflow FILE
 TREE is --tree FILE, or MATRIX
 MATRIX is --matrix FILE, with at most one of --perm and --ordering, and any of
@@ -414,8 +415,11 @@ the others
 Prints a fence file: each fence is a line FROM TO, by which task TO waits for
 task FROM, or for all readers of an item. From its amounts follows that no run
 on so many workers that keeps to the fences passes the bound, whatever starts
-the tasks, and however long they take; and none comes to a stop. Status 1: the
-order is no traversal. Status 5: the bound is below the peak of the order.
+the tasks, and however long they take; and none comes to a stop. With a bound
+and no order, the order is planned, as plan does. Without a bound, the file has
+one that no run passes as the tasks stand: its fences forbid no run. Status 1:
+the order is no traversal. Status 5: the bound is below the peak of the order,
+or of the plan.
 
 $ memplan fence --tree examples/five.tree --order examples/five.order --bound 16 | head -n 2
 fences 1
@@ -615,7 +619,8 @@ usage: memplan COMMAND OPTIONS
   tree      the tree of fronts of a matrix
   fronts    the rows of every front of a matrix
   simulate  a run on several workers within a bound on memory
-  fence     fences that keep every parallel run within a bound on memory
+  fence     fences that keep every parallel run within a bound on memory, or
+            what no run passes without any
   spill     the least volume that must go to disk within a bound
   segments  how low memory can come within each bound
   reduce    the series-parallel workflow of a task graph

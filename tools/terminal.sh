@@ -181,20 +181,30 @@ is_given() {
     [ -n "${given[$name]+given}" ] && { [ "$1" = "$name" ] || [ "${given[$name]}" = "${1#*=}" ]; }
 }
 
+# Sets `count`: how many options of a group, with `|` between, are given. Where there are several, that is said.
+count_given() { # GROUP
+    local name
+    count=0
+    for name in ${1//|/ }; do
+        ! is_given "$name" || count=$((count + 1))
+    done
+    [ $count -le 1 ] || fault "of $(as_options "$1" and) one alone is given"
+}
+
 check_together() { # COMMAND
-    local pair group name names count
+    local pair group count
     for pair in ${only_with[$1]}; do
-        ! is_given "${pair%:*}" || is_given "${pair#*:}" || fault "$(as_options "${pair%:*}") goes with $(as_options "${pair#*:}"), which is not given"
+        is_given "${pair%:*}" || continue
+        count_given "${pair#*:}"
+        [ $count -gt 0 ] || fault "$(as_options "${pair%:*}") goes with $(as_options "${pair#*:}"), which is not given"
     done
     for group in ${one_of[$1]}; do
-        count=0
-        for name in ${group//|/ }; do
-            ! is_given "$name" || count=$((count + 1))
-        done
+        count_given "$group"
         [ $count -gt 0 ] || fault "$1 wants $(as_options "$group")"
-        [ $count -eq 1 ] || fault "of $(as_options "$group" and) one alone is given"
     done
-    ! is_given perm || ! is_given ordering || fault "of --perm and --ordering one alone is given"
+    for group in "perm|ordering" "order|plan"; do
+        count_given "$group"
+    done
     fault "these options do not go together"
 }
 

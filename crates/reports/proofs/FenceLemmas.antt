@@ -18,7 +18,7 @@ use Rattle.reports.specs.CheckFences.{AreFencesCertified, IsFenceCheckOf}
 
 -- ---- what is printed
 
-counted : (asked : Option ℕ) (told : Workers) → IfSome asked AreWorkers → IsFor asked told → AreCounted told
+pub counted : (asked : Option ℕ) (told : Workers) → IfSome asked AreWorkers → IsFor asked told → AreCounted told
 counted None told range is = subst AreCounted (sym is) tt
 counted (Some n) told range (room, is) = subst AreCounted (sym is) range
 

@@ -2,6 +2,7 @@ pub mod BoundLemmas
 pub mod GraphPlanLemmas
 pub mod DemoLemmas
 pub mod FenceLemmas
+pub mod PlannedFenceLemmas
 pub mod FrontLemmas
 pub mod OneFile
 pub mod OneInput
@@ -14,6 +15,7 @@ pub mod SoundAnswer
 pub mod GapLemmas
 pub mod GraphLemmas
 pub mod SpillLemmas
+pub mod StandingLemmas
 pub mod StairPages
 pub mod StairsLemmas
 pub mod UpgradeLemmas

@@ -34,7 +34,8 @@ use Rattle.reports.specs.Fronts.{IsFrontsOf}
 use Rattle.reports.specs.Post.{IsPost, post_answer}
 use Rattle.reports.specs.Replay.{IsReplayAnswer, IsReplayOf}
 use Rattle.requests.specs.Request.{Request, replay, tree, post, check, planning, simulate, demo, upgrade, spill, segments}
-use Rattle.requests.specs.Request.{check_fences, check_graph, plan_graph, bounding, fencing, reduce, Upgrade, IsInRange, IsMakeable, TreeInput, matrix_named, Input, OrderSource}
+use Rattle.requests.specs.Request.{check_fences, check_graph, plan_graph, bounding, fencing, planned_fencing, standing, reduce, Upgrade, IsInRange}
+use Rattle.requests.specs.Request.{IsMakeable, TreeInput, matrix_named, Input, OrderSource}
 use Rattle.requests.specs.Request.{TaskSource, input_tasks, graph_tasks, task_files}
 use Rattle.requests.specs.Request.{order_named, plan_named, Simulation, FileRole, NamedFile, tree_input_files, input_files}
 use Rattle.requests.specs.Request.{fence_file, source_file, priority_file, priority_files, files_of, fronts, OrderedMatrix}
@@ -219,6 +220,8 @@ module _ (r : Reports) where
   one_report (plan_graph graph order effort format) texts a b workers decided is is' = absurd decided
   one_report (simulate tasks source s) texts a b workers decided is is' = simulated_once tasks source s texts a b workers.0 is is'
   one_report (fencing tasks source f) texts a b within decided is is' = absurd decided
+  one_report (planned_fencing tasks f) texts a b within decided is is' = absurd decided
+  one_report (standing tasks workers) texts a b within decided is is' = absurd decided
   one_report (demo made) texts a b within decided is is' = r.demos made a b within is is'
   one_report (upgrade u) texts a b within decided is is' = one_upgrade_answer r.upgrades u texts a b is is'
   one_report (spill tasks source bound) texts a b within decided is is' = absurd decided
@@ -297,6 +300,8 @@ module _ (r : Reports) where
   report_accepted (fencing tasks source f) texts a (mine, text, s, order, split, is_system, is_order, x) =
       with_tasks tasks (source_file source ∷ []) texts mine (text ∷ []) s split is_system
       (source_accepted source mine text order is_order, tt)
+  report_accepted (planned_fencing tasks f) texts a (s, is_system, x) = system_accepted tasks texts s is_system
+  report_accepted (standing tasks workers) texts a (s, is_system, x) = system_accepted tasks texts s is_system
   report_accepted (demo made) texts a is = tt
   report_accepted (upgrade u) texts a (value, is, e) = upgrade_accepted u texts value is
   report_accepted (spill (input_tasks input) source bound) texts a (mine, text, s, order, split, is_system, is_order, is) =

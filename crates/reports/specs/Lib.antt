@@ -9,6 +9,8 @@ pub mod Plan
 pub mod Simulate
 pub mod Demo
 pub mod Fence
+pub mod PlannedFence
+pub mod Standing
 pub mod CheckFences
 pub mod Upgrade
 pub mod Spill

@@ -1,13 +1,15 @@
 -- What each command promises of what it prints, beside that it is an answer.
 use Rattle.std.specs.Prelude.{◌≡◌, ◌≤◌, ℕ, List}
 use Rattle.requests.specs.Request.{Request, replay, tree, post, check, planning, simulate, demo, upgrade, spill, segments, fronts, reduce}
-use Rattle.requests.specs.Request.{check_fences, check_graph, plan_graph, bounding, fencing, IsMakeable}
+use Rattle.requests.specs.Request.{check_fences, check_graph, plan_graph, bounding, fencing, planned_fencing, standing, IsMakeable}
 use Rattle.judging.specs.Files.{Answer}
 use Rattle.reports.specs.Reports.{IsReport}
 use Rattle.reports.specs.Check.{IsCertified}
 use Rattle.reports.specs.CheckGraph.{IsBoundCertified}
 use Rattle.reports.specs.CheckFences.{AreFencesCertified}
 use Rattle.reports.specs.Fence.{IsFencedIn}
+use Rattle.reports.specs.PlannedFence.{IsFencedWithin}
+use Rattle.reports.specs.Standing.{IsBoundedAsItStands}
 use Rattle.reports.specs.Bound.{IsBounded}
 use Rattle.reports.specs.Plan.{IsBestPlan}
 use Rattle.reports.specs.PlanGraph.{IsGraphPlanned}
@@ -55,6 +57,11 @@ Says (simulate tasks source simulation) texts ended printed = ended ≡ status.D
 -- where fences were made, what was printed is a file of fences that `check` accepts: memory stays within the bound along every parallel run of the
 -- tasks that keeps to them, on as many workers as were asked for, and no such run comes to a stop before all tasks are done
 Says (fencing tasks source f) texts ended printed = ended ≡ status.Done → IsFencedIn tasks source f texts printed
+-- the same where the order was planned: it is some traversal of the tasks, whose peak is within the bound
+Says (planned_fencing tasks f) texts ended printed = ended ≡ status.Done → IsFencedWithin tasks f texts printed
+-- where a bound of the tasks as they stand was made, what was printed is a file of fences that `check` accepts, and that forbids no run: memory
+-- stays within its bound along every parallel run of the tasks, on as many workers as were asked for, and no run comes to a stop before all are done
+Says (standing tasks workers) texts ended printed = ended ≡ status.Done → IsBoundedAsItStands tasks workers texts printed
 -- where a demo was made, what was printed is its summary: the checker says yes, and no traversal of the made system has a lower peak
 -- than the one that was printed
 Says (demo made) texts ended printed = ended ≡ status.Done → IsShown made printed

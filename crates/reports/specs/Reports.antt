@@ -3,13 +3,15 @@
 use Rattle.std.specs.Prelude.{◌≡◌, ℕ, List, [], ◌⊎◌}
 use Rattle.trees.specs.declared.node.Node.{Node}
 use Rattle.requests.specs.Request.{Request, replay, tree, post, check, planning, simulate, demo, upgrade, spill, fronts, segments, reduce}
-use Rattle.requests.specs.Request.{check_fences, check_graph, plan_graph, bounding, fencing, files_of}
+use Rattle.requests.specs.Request.{check_fences, check_graph, plan_graph, bounding, fencing, planned_fencing, standing, files_of}
 use Rattle.reports.specs.Replay.{IsReplayOf}
 use Rattle.judging.specs.Files.{IsTreeOf, IsFirstRefusal, IsMatrixTree, Answer}
 use Rattle.reports.specs.Check.{IsCheckOf}
 use Rattle.reports.specs.CheckGraph.{IsBoundCheckOf}
 use Rattle.reports.specs.CheckFences.{IsFenceCheckOf}
 use Rattle.reports.specs.Fence.{IsFenceAnswerOf}
+use Rattle.reports.specs.PlannedFence.{IsPlannedFenceAnswerOf}
+use Rattle.reports.specs.Standing.{IsStandingAnswerOf}
 use Rattle.reports.specs.Bound.{IsBoundOf}
 use Rattle.reports.specs.Simulate.{IsSimulationOf}
 use Rattle.reports.specs.Plan.{IsPlanOf}
@@ -35,6 +37,8 @@ IsReport (planning input format) texts answer = IsPlanOf input format texts answ
 IsReport (plan_graph graph order effort format) texts answer = IsGraphPlanOf order format texts answer
 IsReport (simulate tasks source s) texts answer = IsSimulationOf tasks source s texts answer
 IsReport (fencing tasks source f) texts answer = IsFenceAnswerOf tasks source f texts answer
+IsReport (planned_fencing tasks f) texts answer = IsPlannedFenceAnswerOf tasks f texts answer
+IsReport (standing tasks workers) texts answer = IsStandingAnswerOf tasks workers texts answer
 IsReport (demo made) texts answer = IsDemoOf made answer
 IsReport (upgrade u) texts answer = IsUpgradeOf u texts answer
 IsReport (spill tasks source bound) texts answer = IsSpillOf tasks source bound texts answer
@@ -45,7 +49,7 @@ IsReport (bounding graph order effort) texts answer = IsBoundOf order texts answ
 
 -- the files of a request decide its answer; but `plan` may print any plan of least peak with a certificate, or any of a graph, `spill` the
 -- amounts of any spill plan of least volume, `reduce` any term of a graph or any irreducible rest, `bound` any bound for which there is
--- evidence, `fence` any fences that amounts certify, and `check` may judge the claims of a plan on any term of a graph
+-- evidence, `fence` any fences that amounts certify, along any plan where it plans the order, and `check` may judge the claims of a plan on any term of a graph
 abbrev pub IsDecided : Request → Type 0
 IsDecided (planning input format) = ⊥
 IsDecided (plan_graph graph order effort format) = ⊥
@@ -55,6 +59,8 @@ IsDecided (bounding graph order effort) = ⊥
 IsDecided (check_graph graph plan workers) = ⊥
 IsDecided (check_fences tasks fences) = ⊥
 IsDecided (fencing tasks source f) = ⊥
+IsDecided (planned_fencing tasks f) = ⊥
+IsDecided (standing tasks workers) = ⊥
 IsDecided request = Unit {0}
 
 -- the answer to a request over the texts of its files

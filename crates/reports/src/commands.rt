@@ -10,12 +10,14 @@ pub mod fronts;
 pub mod gap_report;
 pub mod plan;
 pub mod plan_graph;
+pub mod planned_fence;
 pub mod post;
 pub mod reduce;
 pub mod replay;
 pub mod segments;
 pub mod simulate;
 pub mod spill;
+pub mod standing;
 pub mod tree;
 pub mod upgrade;
 
@@ -57,6 +59,10 @@ pub fn report<R: Threads + Sync, F: Files, G: Gate>(
         Request::PlanGraph(asked) => plan_graph::report_plan_graph(alloc, files, asked),
         Request::Simulate(asked) => simulate::report_simulate(alloc, files, asked),
         Request::Fence(asked) => fence::report_fence(alloc, files, asked),
+        Request::PlannedFence(asked) => planned_fence::report_planned_fence(alloc, files, asked),
+        Request::Standing(tasks, workers) => {
+            standing::report_standing(alloc, files, tasks, workers)
+        }
         Request::Demo(made) => Ok(demo::report_demo(rt, alloc, made, gate)?),
         Request::Upgrade(asked) => upgrade::report_upgrade(alloc, files, asked),
         Request::Spill(asked) => spill::report_spill(alloc, files, asked),

@@ -102,6 +102,10 @@ pub data Request : Type 0 where
   simulate : TaskSource → OrderSource → Simulation → Request
   -- fences that keep all runs of tasks within a bound, along an order
   fencing : TaskSource → OrderSource → Fencing → Request
+  -- the same along an order that is planned
+  planned_fencing : TaskSource → Fencing → Request
+  -- what no run of tasks passes as they stand, on at most so many workers, or with none on any number
+  standing : TaskSource → Option ℕ → Request
   -- an input that is made, its plan, and whether the plan is accepted
   demo : Demo → Request
   -- a file, as version 2
@@ -249,6 +253,8 @@ IsInRange (check input plan workers) = AreWorkers workers
 IsInRange (check_graph graph plan workers) = AreWorkers workers
 IsInRange (simulate tasks source s) = AreWorkers s.workers
 IsInRange (fencing tasks source f) = IfSome f.workers AreWorkers
+IsInRange (planned_fencing tasks f) = IfSome f.workers AreWorkers
+IsInRange (standing tasks workers) = IfSome workers AreWorkers
 IsInRange (demo made) = IsMakeable made
 IsInRange (fronts m bound workers) = AreWorkers workers
 IsInRange request = Unit {0}
@@ -338,6 +344,8 @@ files_of (planning input format) = input_files input
 files_of (plan_graph graph order effort format) = record { role = shared_graph_file; name = graph } ∷ order_files order
 files_of (simulate tasks source s) = task_files tasks ++ source_file source ∷ priority_files (priority_file tasks) s.priority
 files_of (fencing tasks source f) = task_files tasks ++ source_file source ∷ []
+files_of (planned_fencing tasks f) = task_files tasks
+files_of (standing tasks workers) = task_files tasks
 files_of (demo made) = []
 files_of (upgrade u) = upgrade_files u
 files_of (spill tasks source bound) = task_files tasks ++ source_file source ∷ []

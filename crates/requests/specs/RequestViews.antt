@@ -14,6 +14,7 @@ use Rattle.requests.specs.declared.request.PlanFormat.TheVariants as formats
 use Rattle.requests.specs.declared.request.Request.{Request}
 use Rattle.requests.specs.declared.request.Request.TheVariants as commands
 use Rattle.requests.specs.declared.commands.fence.Fencing.{Fencing}
+use Rattle.requests.specs.declared.commands.fence.PlannedFencing.{PlannedFencing}
 use Rattle.requests.specs.declared.commands.simulate.Simulation.{Simulation}
 use Rattle.requests.specs.declared.commands.upgrade.Upgrade.{Upgrade}
 use Rattle.requests.specs.declared.commands.upgrade.Upgrade.TheVariants as upgrades
@@ -55,6 +56,9 @@ simulation_view names = record { bound = names.bound; workers = names.workers; p
 abbrev pub fencing_view : Fencing → requests.Fencing
 fencing_view names = record { bound = names.bound; workers = names.workers }
 
+abbrev pub planned_fencing_view : PlannedFencing → requests.Fencing
+planned_fencing_view names = record { bound = names.bound; workers = names.workers }
+
 abbrev pub format_view : PlanFormat → requests.PlanFormat
 format_view formats.File = requests.as_file
 format_view formats.Json = requests.as_json
@@ -77,6 +81,8 @@ request_view (commands.PlanGraph p) =
     requests.plan_graph p.graph.now (option_map (λ name. name.now) p.order) p.effort (format_view p.format)
 request_view (commands.Simulate names) = requests.simulate (tasks_view names.tasks) (source_view names.source) (simulation_view names)
 request_view (commands.Fence names) = requests.fencing (tasks_view names.tasks) (source_view names.source) (fencing_view names)
+request_view (commands.PlannedFence names) = requests.planned_fencing (tasks_view names.tasks) (planned_fencing_view names)
+request_view (commands.Standing tasks workers) = requests.standing (tasks_view tasks) workers
 request_view (commands.Demo made) = requests.demo made
 request_view (commands.Upgrade u) = requests.upgrade (upgrade_view u)
 request_view (commands.Spill s) = requests.spill (tasks_view s.tasks) (source_view s.source) s.bound

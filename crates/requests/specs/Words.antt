@@ -5,7 +5,7 @@ use Rattle.std.specs.Prelude.{find, map}
 use Rattle.std.specs.Prelude.{String, string_bytes}
 use Rattle.requests.specs.Request.{Request, TaskSource, input_tasks, graph_tasks, bounding, effort_or_default, check, check_fences, check_graph}
 use Rattle.requests.specs.Request.{input_of, workers_or_one, demo, gives_any, number_given, number_up_to}
-use Rattle.requests.specs.Request.{fencing, workers_given, fronts, ordering_of, planning, plan_graph, PlanFormat, is_second, format_of}
+use Rattle.requests.specs.Request.{fencing, planned_fencing, standing, workers_given, fronts, ordering_of, planning, plan_graph, PlanFormat, is_second, format_of}
 use Rattle.requests.specs.Request.{post, tree_input_of, reduce, replay, tasks_of, source_of, segments}
 use Rattle.requests.specs.Request.{simulate, spill, tree, matrix_of}
 use Rattle.requests.specs.Request.{upgrade, Upgrade, tree_upgrade, workflow_upgrade, graph_upgrade, plan_upgrade}
@@ -86,8 +86,8 @@ abbrev pub demo_of : List Given → Option Request
 demo_of options = option_map demo (made_of (kind_or_tree (value_of (codes "kind") options)) options)
 
 -- `fence`, one input or task graph, `--order NAME` or `--plan NAME`, `--bound B`, and `--workers N` if it is given
-abbrev pub fence_of : List Given → Option Request
-fence_of options =
+abbrev pub fencing_of : List Given → Option Request
+fencing_of options =
     option_and_then (λ tasks.
     option_and_then (λ source.
     option_and_then (λ bound.
@@ -96,6 +96,29 @@ fence_of options =
     (number_given (value_of (codes "bound") options)))
     (source_of (value_of (codes "order") options) (value_of (codes "plan") options)))
     (tasks_of options)
+
+-- `fence`, one input or task graph, `--bound B`, and `--workers N` if it is given
+abbrev pub planned_fencing_of : List Given → Option Request
+planned_fencing_of options =
+    option_and_then (λ tasks.
+    option_and_then (λ bound.
+    option_map (λ workers. planned_fencing tasks (record { bound = bound; workers = workers }))
+    (workers_given (value_of (codes "workers") options)))
+    (number_given (value_of (codes "bound") options)))
+    (tasks_of options)
+
+-- `fence`, one input or task graph, and `--workers N` if it is given
+abbrev pub standing_of : List Given → Option Request
+standing_of options =
+    option_and_then (λ tasks. option_map (standing tasks) (workers_given (value_of (codes "workers") options)))
+    (tasks_of options)
+
+-- along the order that is given, or that of the plan; with a bound alone the order is planned, and without one the tasks are taken as they stand
+abbrev pub fence_of : List Given → Option Request
+fence_of options =
+    if gives_any (codes "order" ∷ codes "plan" ∷ []) options then fencing_of options
+    else if gives_any (codes "bound" ∷ []) options then planned_fencing_of options
+    else standing_of options
 
 -- `fronts`, `--matrix NAME`, its `--perm NAME` or `--ordering natural|mindeg` if one is given, `--bound B` and `--workers N`
 abbrev pub fronts_of : List Given → Option Request

@@ -10,7 +10,7 @@ mod request;
 pub use commands::bound::Bounding;
 pub use commands::check::{Check, FenceCheck, GraphCheck};
 pub use commands::demo::Demo;
-pub use commands::fence::Fencing;
+pub use commands::fence::{Fencing, PlannedFencing};
 pub use commands::fronts::FrontRun;
 pub use commands::plan::GraphPlan;
 pub use commands::replay::Replay;
@@ -19,5 +19,6 @@ pub use commands::simulate::Simulation;
 pub use commands::spill::Spilling;
 pub use commands::upgrade::Upgrade;
 pub use request::{
-    Input, Matrix, OrderSource, OrderedMatrix, Ordering, PlanFormat, Request, TaskSource, TreeInput,
+    DEFAULT_EFFORT, Input, Matrix, OrderSource, OrderedMatrix, Ordering, PlanFormat, Request,
+    TaskSource, TreeInput,
 };

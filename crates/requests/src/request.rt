@@ -9,7 +9,7 @@ ghost use Rattle.requests.specs.RequestViews.{ordering_view, matrix_view, tree_i
 use crate::commands::bound::Bounding;
 use crate::commands::check::{Check, FenceCheck, GraphCheck};
 use crate::commands::demo::Demo;
-use crate::commands::fence::Fencing;
+use crate::commands::fence::{Fencing, PlannedFencing};
 use crate::commands::fronts::FrontRun;
 use crate::commands::plan::GraphPlan;
 use crate::commands::replay::Replay;
@@ -109,6 +109,10 @@ pub enum Request<'a> {
     Simulate(Simulation<'a>),
     /// Fences that keep all runs of the tasks within a bound, along the order.
     Fence(Fencing<'a>),
+    /// The same along an order that is planned.
+    PlannedFence(PlannedFencing<'a>),
+    /// What no run of the tasks passes as they stand, on at most so many workers, from 1 to 4,096; with none, on any number of them.
+    Standing(TaskSource<'a>, Option<u32>),
     /// An input that is made, its plan, and whether the plan is accepted.
     Demo(Demo),
     /// A file, as version 2.
@@ -217,7 +221,7 @@ pub fn matrix_of<'a>(name: &'a str, line: &Line<'a>) -> Option<Matrix<'a>>
 // ---- inputs
 
 // Whether an option of one of these names is given.
-fn gives_any(names: &[&str], line: &Line<'_>) -> bool
+pub fn gives_any(names: &[&str], line: &Line<'_>) -> bool
     ensures { result ≡ gives_any (texts names.now) line.now.options }
 {
     names.iter().any(|name| line.value(name).is_some())
@@ -326,7 +330,7 @@ pub fn number_up_to(most: u64, given: Option<&str>) -> Option<u32>
 }
 
 /// A search takes at most so many steps, where no number is given.
-const DEFAULT_EFFORT: u64 = 1_000_000_000;
+pub const DEFAULT_EFFORT: u64 = 1_000_000_000;
 
 /// So many steps, or the default, where no number is given.
 pub fn effort_of(given: Option<&str>) -> Option<u64>

@@ -8,7 +8,7 @@ use Rattle.requests.specs.Request.{Request, Input, tree_input, tree_named, matri
 use Rattle.requests.specs.Request.{perm_named, order_named, plan_named, replay, tree, post, check, planning, as_file, as_json, simulate}
 use Rattle.requests.specs.Request.{demo, upgrade, tree_upgrade, graph_upgrade, plan_upgrade, spill, segments, fronts, reduce, files_of, FileRole, tree_file}
 use Rattle.requests.specs.Request.{workflow_file, matrix_file, perm_file, order_file, plan_file, priority_file}
-use Rattle.requests.specs.Request.{check_fences, check_graph, bounding, default_effort, bounded_plan_file, fence_file, fencing}
+use Rattle.requests.specs.Request.{check_fences, check_graph, bounding, default_effort, bounded_plan_file, fence_file, fencing, planned_fencing, standing}
 use Rattle.requests.specs.Request.{plan_priority_file, NamedFile, input_tasks, graph_tasks, shared_graph_file}
 use Rattle.requests.specs.Words.{request_of, AsksNothing}
 
@@ -118,14 +118,29 @@ pub check_of_fences_asked :
 unfolding tokens_of number_of number_from
 check_of_fences_asked = refl
 
--- any number of workers, where none is given
+-- any number of workers, where none is given; with an order goes a bound
 pub fence_asked :
     asked (codes "fence --graph g --order o --bound 9") ∷ asked (codes "fence --workflow w --plan p --bound 9 --workers 4")
-    ∷ asked (codes "fence --graph g --bound 9") ∷ []
+    ∷ asked (codes "fence --graph g --order o") ∷ asked (codes "fence --graph g --order o --plan p --bound 9") ∷ []
     ≡ Some (fencing (graph_tasks (codes "g")) (order_named (codes "o")) (record { bound = 9; workers = None }))
-    ∷ Some (fencing (input_tasks a_workflow) (plan_named (codes "p")) (record { bound = 9; workers = Some 4 })) ∷ None ∷ []
+    ∷ Some (fencing (input_tasks a_workflow) (plan_named (codes "p")) (record { bound = 9; workers = Some 4 })) ∷ None ∷ None ∷ []
 unfolding tokens_of number_of number_from
 fence_asked = refl
+
+-- with a bound alone the order is planned
+pub planned_fence_asked :
+    asked (codes "fence --graph g --bound 9") ∷ asked (codes "fence --workers 4 --bound 9 --workflow w") ∷ asked (codes "fence --tree t --bound B") ∷ []
+    ≡ Some (planned_fencing (graph_tasks (codes "g")) (record { bound = 9; workers = None }))
+    ∷ Some (planned_fencing (input_tasks a_workflow) (record { bound = 9; workers = Some 4 })) ∷ None ∷ []
+unfolding tokens_of number_of number_from
+planned_fence_asked = refl
+
+-- with none of these the tasks are taken as they stand
+pub standing_asked :
+    asked (codes "fence --graph g") ∷ asked (codes "fence --workers 4 --tree t") ∷ asked (codes "fence --workers 0 --tree t") ∷ []
+    ≡ Some (standing (graph_tasks (codes "g")) None) ∷ Some (standing (input_tasks a_tree) (Some 4)) ∷ None ∷ []
+unfolding tokens_of number_of number_from
+standing_asked = refl
 
 -- ---- words that ask for nothing
 
@@ -173,6 +188,8 @@ pub files_of_others :
     ∷ bounding (codes "g") (Some (codes "o")) 7
     ∷ check_fences (graph_tasks (codes "g")) (codes "f")
     ∷ fencing (input_tasks a_workflow) (order_named (codes "o")) (record { bound = 9; workers = None })
+    ∷ planned_fencing (input_tasks a_workflow) (record { bound = 9; workers = None })
+    ∷ standing (input_tasks a_workflow) (Some 4)
     ∷ demo (demos.Grid 2 3)
     ∷ [])
     ≡ (file (matrix_file (perm_named (codes "q"))) (codes "m") ∷ file perm_file (codes "q") ∷ [])
@@ -184,5 +201,7 @@ pub files_of_others :
     ∷ (file shared_graph_file (codes "g") ∷ file order_file (codes "o") ∷ [])
     ∷ (file shared_graph_file (codes "g") ∷ file fence_file (codes "f") ∷ [])
     ∷ (file workflow_file (codes "w") ∷ file order_file (codes "o") ∷ [])
+    ∷ (file workflow_file (codes "w") ∷ [])
+    ∷ (file workflow_file (codes "w") ∷ [])
     ∷ [] ∷ []
 files_of_others = refl

@@ -25,8 +25,8 @@ use requests::Fencing;
 use shared_systems::SharedSystem;
 use std::alloc::{AllocError, Global};
 
-// The file of fences.
-fn certificate_page(alloc: Global, certificate: &FenceCertificate) -> Result<Page, AllocError>
+/// The file of fences.
+pub fn certificate_page(alloc: Global, certificate: &FenceCertificate) -> Result<Page, AllocError>
     ensures { IfOk result (λ page. answer_of page ≡ fences_answer certificate.now) }
 {
     let mut report = Report::new(alloc);
@@ -35,8 +35,8 @@ fn certificate_page(alloc: Global, certificate: &FenceCertificate) -> Result<Pag
     Ok(Page { kind, report })
 }
 
-// The file of fences for a system and an order of its tasks, or why there is none.
-fn system_page(
+/// The file of fences for a system and an order of its tasks, or why there is none.
+pub fn system_page(
     alloc: Global,
     system: &SharedSystem,
     order: &[u32],

@@ -74,6 +74,10 @@ pub const PLAN_GRAPH: &str = "plan --graph z --order w";
 
 pub const FENCE: &str = "fence --tree u --order x --bound 9";
 
+pub const PLANNED_FENCE: &str = "fence --tree u --bound 9";
+
+pub const STANDING: &str = "fence --graph i";
+
 pub const CHECK_FENCES: &str = "check --tree u --fences f";
 
 // ---- what they print
@@ -98,6 +102,10 @@ pub const WORKFLOW: &str =
     "workflow 1\ntasks 4\ndata 0\ndata 6\ndata 2\ntask 3 1\ndata 5\ndata 1\ntask 2 1\npar 2\ndata 0\ntask 0 1\ntask 0 1\nend\n\
     # 1 3\n# 2 2\n# 3 4\n# 4 1\n";
 
+// Nothing runs beside the 12 that are there at the start.
+pub const STILL: &str =
+    "fences 1\nbound 12\nworkers 0\nroom 0\njoins 0\nfences 0\namounts 1\n12\nend\n";
+
 // The need of task 3 is what no order has a peak below.
 pub const PLAN_OF_ZIGZAG: &str = "plan 3\norder 4\n1\n3\n2\n4\npeak 7\nbound 7\nneed 3\nend\n";
 
@@ -117,6 +125,9 @@ const ANSWERS: &[(&str, &str)] = &[
     (CHECK_GRAPH, "yes 12 least\n"),
     (PLAN_GRAPH, PLAN_OF_ZIGZAG),
     (FENCE, FENCED),
+    (PLANNED_FENCE, FENCED),
+    ("fence --tree u --bound 8", "refused bound 8 9\n"),
+    (STANDING, STILL),
     (CHECK_FENCES, "yes 9\n"),
     ("reduce --graph h", "workflow 1\ntasks 2\ndata 7\ndata 0\ndata 2\ntask 1 1\npar 2\ndata 0\ntask 1 1\nend\n# 1 1\n# 2 2\n"),
     ("upgrade --tree t", "tree 2\nnodes 5\n2 1 9 0 1\n5 5 0 0 1\n4 1 9 0 1\n5 5 0 0 1\n0 0 0 0 1\nend\n"),

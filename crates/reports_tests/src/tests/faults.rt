@@ -1,8 +1,9 @@
 //! Loads and writes that fail, and sinks that are full.
 
 use super::commands::{
-    ABREAST, BOTH, BOUND, CHECK_GRAPH, FILES, FRONTS, OF_FIVE, PLAN_GRAPH, PLAN_OF_ZIGZAG,
-    PLANNING, REDUCE, REPLAY, SEGMENTS, SIMULATE, SPILL, TIGHT, WORKFLOW,
+    ABREAST, BOTH, BOUND, CHECK_FENCES, CHECK_GRAPH, FENCE, FENCED, FILES, FRONTS, OF_FIVE,
+    PLAN_GRAPH, PLAN_OF_ZIGZAG, PLANNED_FENCE, PLANNING, REDUCE, REPLAY, SEGMENTS, SIMULATE, SPILL,
+    STANDING, STILL, TIGHT, WORKFLOW,
 };
 use super::{check_run, files_of, run_into};
 use mp_outside::MemSink;
@@ -35,6 +36,13 @@ const OF_ZIGZAG: u64 = 25 + 1;
 
 const OF_WORSE: u64 = 3 + 1;
 
+// Of the tree of one node there are 27 bytes, of the order of its one task 2, of fences for it 67.
+const OF_ONE: u64 = 9 + 1;
+
+const OF_NUMBER: u64 = 1 + 1;
+
+const OF_FENCES: u64 = 23 + 1;
+
 // Runs, the loads of each, and all that it prints.
 #[rattlefmt::skip]
 const RUNS: &[(&str, u64, &str)] = &[
@@ -47,6 +55,10 @@ const RUNS: &[(&str, u64, &str)] = &[
     (BOUND, OF_IDLE, "bound 12\nneed 0\nend\n"),
     (CHECK_GRAPH, OF_IDLE + OF_BOUNDED, "yes 12 least\n"),
     (PLAN_GRAPH, OF_ZIGZAG + OF_WORSE, PLAN_OF_ZIGZAG),
+    (FENCE, OF_ONE + OF_NUMBER, FENCED),
+    (PLANNED_FENCE, OF_ONE, FENCED),
+    (STANDING, OF_IDLE, STILL),
+    (CHECK_FENCES, OF_ONE + OF_FENCES, "yes 9\n"),
 ];
 
 // What a run without faults prints. A plan may be any of least peak: whether it is one is tested elsewhere.

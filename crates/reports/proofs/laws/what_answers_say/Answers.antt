@@ -7,12 +7,14 @@ use Rattle.shared_graph_files.specs.EitherVersion.{StatesAs}
 use Rattle.reports.specs.Reduce.{are_second}
 use Rattle.reports.specs.Promises.{done_answer}
 use Rattle.requests.specs.Request.{Request, replay, tree, post, check, planning, simulate, demo, upgrade, spill, segments, fronts, reduce}
-use Rattle.requests.specs.Request.{check_fences, check_graph, plan_graph, bounding, fencing}
+use Rattle.requests.specs.Request.{check_fences, check_graph, plan_graph, bounding, fencing, planned_fencing, standing}
 use Rattle.judging.specs.declared.status.Status.TheVariants.{Done}
 use Rattle.reports.proofs.RunLemmas.{report_when_done, report_of_rest}
 use Rattle.reports.proofs.SoundAnswer.{certified, best, simulated}
 use Rattle.reports.proofs.BoundLemmas.{bounded, bound_certified}
 use Rattle.reports.proofs.FenceLemmas.{fenced, fences_certified}
+use Rattle.reports.proofs.PlannedFenceLemmas.{fenced_within}
+use Rattle.reports.proofs.StandingLemmas.{bounded_as_it_stands}
 use Rattle.reports.proofs.GraphPlanLemmas.{graph_planned}
 use Rattle.reports.proofs.UpgradeLemmas.{upgraded}
 use Rattle.reports.proofs.SpillLemmas.{spilled_tasks}
@@ -59,6 +61,12 @@ returns c (simulate tasks source simulation) texts answer possible is = λ done.
 returns c (fencing tasks source f) texts answer possible is = λ done.
     fenced c.shared_tasks.ensures c.certificate_law.ensures.bound c.certificate_law.ensures.goes_on
     tasks source f texts answer (report_when_done (fencing tasks source f) texts answer is done) done
+returns c (planned_fencing tasks f) texts answer possible is = λ done.
+    fenced_within c.shared_tasks.ensures c.certificate_law.ensures.bound c.certificate_law.ensures.goes_on
+    tasks f texts answer (report_when_done (planned_fencing tasks f) texts answer is done) done
+returns c (standing tasks workers) texts answer possible is = λ done.
+    bounded_as_it_stands c.shared_tasks.ensures c.certificate_law.ensures.bound c.certificate_law.ensures.goes_on
+    tasks workers texts answer (report_when_done (standing tasks workers) texts answer is done) done
 returns c (demo made) texts answer possible is =
     λ done. c.one_demo.ensures.shown made answer possible (report_when_done (demo made) texts answer is done)
 returns c (upgrade file) texts answer possible is = λ done.
