@@ -24,8 +24,9 @@ include c/directories.mk
 
 # The same folder for both Makefiles, wherever it is told from.
 STAGE = $(if $(DESTDIR),$(if $(filter /%,$(firstword $(DESTDIR))),$(DESTDIR),$(CURDIR)/$(DESTDIR)))
-# The Python package looks for the library in these folders by itself; in another one it is told by a link.
+# The Python package looks for the library and the program in these folders by itself; in another one it is told by a link.
 LOOKED_IN = $(abspath $(PYTHONDIR)/../lib $(PYTHONDIR)/../../../lib)
+RUN_FROM = $(abspath $(PYTHONDIR)/../bin $(PYTHONDIR)/../../../bin)
 SONAME := libmemplan.so.$(firstword $(subst ., ,$(VERSION)))
 
 install: all absolute
@@ -34,6 +35,8 @@ install: all absolute
 	$(INSTALL_DATA) $(PYTHON:%=python/memplan/%) '$(STAGE)$(PYTHONDIR)/memplan/'
 	[ -n '$(filter $(LOOKED_IN),$(libdir))' ] || ln -sf "$$(realpath --canonicalize-missing --no-symlinks \
 	    --relative-to='$(PYTHONDIR)/memplan' '$(libdir)/$(SONAME)')" '$(STAGE)$(PYTHONDIR)/memplan/$(SONAME)'
+	[ -n '$(filter $(RUN_FROM),$(bindir))' ] || ln -sf "$$(realpath --canonicalize-missing --no-symlinks \
+	    --relative-to='$(PYTHONDIR)/memplan' '$(bindir)/memplan')" '$(STAGE)$(PYTHONDIR)/memplan/memplan'
 	$(INSTALL_DATA) docs/memplan.1 '$(STAGE)$(mandir)/man1/memplan.1'
 	$(INSTALL_DATA) tools/completion/memplan.bash '$(STAGE)$(BASHDIR)/memplan'
 	$(INSTALL_DATA) tools/completion/_memplan '$(STAGE)$(ZSHDIR)/_memplan'
@@ -42,7 +45,7 @@ install: all absolute
 # What Python has compiled beside the package goes too, and folders of memplan's own where nothing else is in them.
 uninstall: absolute
 	rm -f '$(STAGE)$(mandir)/man1/memplan.1' '$(STAGE)$(BASHDIR)/memplan' '$(STAGE)$(ZSHDIR)/_memplan' '$(STAGE)$(bindir)/memplan'
-	cd '$(STAGE)$(PYTHONDIR)/memplan' 2>/dev/null && rm -rf $(PYTHON) $(SONAME) __pycache__ || true
+	cd '$(STAGE)$(PYTHONDIR)/memplan' 2>/dev/null && rm -rf $(PYTHON) $(SONAME) memplan __pycache__ || true
 	rmdir '$(STAGE)$(PYTHONDIR)/memplan' '$(STAGE)$(PYTHONDIR)' 2>/dev/null || true
 	$(MAKE) -C c uninstall DESTDIR='$(STAGE)'
 

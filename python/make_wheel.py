@@ -1,11 +1,12 @@
 #!/usr/bin/env python3
-"""Makes the wheel: memplan with its library inside, and memplan_dask, the runner on Dask.
+"""Makes the wheel: memplan with its library and its program inside, and memplan_dask, the runner on Dask.
 
-usage: make_wheel.py FOLDER [LIBRARY]
+usage: make_wheel.py FOLDER [LIBRARY PROGRAM]
 
-It needs Python 3.11 or later, but no network and no other package. LIBRARY is a libmemplan.so that is there; without it `make -C c` builds one, from
-prebuilt/ where that is of these sources, by a C compiler. pip asks this module too, by pyproject.toml: `pip install ./python`. The same library makes
-the same bytes. What is written at last is the wheel's path.
+It needs Python 3.11 or later, but no network and no other package. LIBRARY is a libmemplan.so that is there, and PROGRAM the program;
+without them `make -C c` builds the one, by a C compiler, and tools/program.sh finds the other, both from prebuilt/ where that is of these
+sources. pip asks this module too, by pyproject.toml: `pip install ./python`. The same library and program make the same bytes. What is
+written at last is the wheel's path.
 """
 import base64
 import hashlib
@@ -41,6 +42,16 @@ def built_library() -> Path:
     return TOP / "c/build/libmemplan.so"
 
 
+def built_program() -> Path:
+    """That of tools/program.sh, as for `make` at the top."""
+    words = ["bash", "-uc", '. "$here/tools/program.sh"; find_program; printf %s "$program"']
+    try:
+        done = subprocess.run(words, env={**os.environ, "here": str(TOP)}, stdout=subprocess.PIPE, check=True, text=True)
+    except (OSError, subprocess.CalledProcessError) as error:
+        sys.exit(f"make_wheel.py: there is no program: {error}")
+    return Path(done.stdout)
+
+
 def told_of(project: Dict[str, Any], version: str) -> Iterator[str]:
     """The lines of METADATA."""
     yield "Metadata-Version: 2.1"
@@ -56,7 +67,7 @@ def told_of(project: Dict[str, Any], version: str) -> Iterator[str]:
     yield (HERE / project["readme"]).read_text(encoding="utf-8")
 
 
-def contents(version: str, library: Path) -> Dict[str, bytes]:
+def contents(version: str, library: Path, program: Path) -> Dict[str, bytes]:
     """The files of the wheel but RECORD."""
     try:
         import tomllib
@@ -66,6 +77,7 @@ def contents(version: str, library: Path) -> Dict[str, bytes]:
     taken = [it for package in PACKAGES for it in sorted(package.iterdir()) if it.suffix in (".py", ".typed")]
     files = {f"{it.parent.name}/{it.name}": it.read_bytes() for it in taken}
     files[f"memplan/libmemplan.so.{version.split('.')[0]}"] = library.read_bytes()
+    files["memplan/memplan"] = program.read_bytes()
     noted = f"memplan-{version}.dist-info"
     files[f"{noted}/METADATA"] = "\n".join(told_of(project, version)).encode()
     files[f"{noted}/WHEEL"] = f"Wheel-Version: 1.0\nGenerator: make_wheel.py\nRoot-Is-Purelib: false\nTag: {TAG}\n".encode()
@@ -77,9 +89,9 @@ def record_of(files: Dict[str, bytes], itself: str) -> bytes:
     return "".join([*(f"{name},sha256={sums[name]},{len(it)}\n" for name, it in files.items()), f"{itself},,\n"]).encode()
 
 
-def make_wheel(folder: Path, library: Path) -> Path:
+def make_wheel(folder: Path, library: Path, program: Path) -> Path:
     version = told_version()
-    files = contents(version, library)
+    files = contents(version, library, program)
     record = f"memplan-{version}.dist-info/RECORD"
     files[record] = record_of(files, record)
     folder.mkdir(parents=True, exist_ok=True)
@@ -87,17 +99,18 @@ def make_wheel(folder: Path, library: Path) -> Path:
     with zipfile.ZipFile(wheel, "w") as put:
         for name, it in files.items():
             entry = zipfile.ZipInfo(name, (2000, 1, 1, 0, 0, 0))
-            entry.external_attr = (0o100755 if ".so" in name else 0o100644) << 16
+            entry.external_attr = (0o100755 if ".so" in name or name == "memplan/memplan" else 0o100644) << 16
             put.writestr(entry, it, zipfile.ZIP_DEFLATED)
     return wheel
 
 
 def build_wheel(wheel_directory: str, config_settings: Optional[Dict[str, Any]] = None, metadata_directory: Optional[str] = None) -> str:
     """What pip calls, and any frontend that keeps to PEP 517."""
-    return make_wheel(Path(wheel_directory), built_library()).name
+    return make_wheel(Path(wheel_directory), built_library(), built_program()).name
 
 
 if __name__ == "__main__":
-    if len(sys.argv) not in (2, 3):
+    if len(sys.argv) not in (2, 4):
         sys.exit(__doc__)
-    print(make_wheel(Path(sys.argv[1]), Path(sys.argv[2]) if len(sys.argv) == 3 else built_library()))
+    built = [Path(it) for it in sys.argv[2:]] or [built_library(), built_program()]
+    print(make_wheel(Path(sys.argv[1]), *built))

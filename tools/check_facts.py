@@ -271,10 +271,14 @@ class Facts:
         yield from self.limits_beside(HEADER, in_header)
         yield from self.limits_beside(PACKAGE, in_package)
         yield from self.limits_beside(ADMISSION, [*in_words, *((f"{names[int(number)]} of its table", text) for number, text in rows)])
+        others = {}
         for file in sorted((self.top / "python/memplan").glob("*.py")):
             name = f"python/memplan/{file.name}"
-            if name not in (PACKAGE, ADMISSION):
+            if name in SENTENCES:
                 yield from self.limits_beside(name, [])
+            elif name not in (PACKAGE, ADMISSION):
+                others[file.name] = len(written_in(self.text(name)))
+        yield "python/memplan, whose other files state no limit", others, dict.fromkeys(others, 0)
         running = numbers_in(self.text(ADMISSION), r"^MOST_(RUNNING) = (\d+)$")
         yield ADMISSION, running, {"RUNNING": self.most["WORKERS"]}
 
@@ -299,7 +303,7 @@ class Facts:
 
     def efforts(self) -> Iterator[Finding]:
         """How many steps a search may take where nothing else is said."""
-        wanted = numbers_in(self.text("crates/requests/src/request.rt"), r"^const DEFAULT_(EFFORT): u64 = ([\d_]+);")
+        wanted = numbers_in(self.text("crates/requests/src/request.rt"), r"^pub const DEFAULT_(EFFORT): u64 = ([\d_]+);")
         specs = "crates/requests/specs/Request.antt"
         yield specs, upper(numbers_in(self.text(specs), r"^default_(effort) = (\d+)$")), wanted
         yield HEADER, numbers_in(self.text(HEADER), r"^#define MEMPLAN_(EFFORT) (\d+)$"), wanted

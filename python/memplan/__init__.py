@@ -21,12 +21,33 @@ from ._types import Array, Matrix, Rows, SharedItems, WholeNumbers
 
 __all__ = [
     "EFFORT",
+    "Blockers",
+    "Bound",
     "Certificate",
+    "Claims",
     "Core",
+    "Fences",
+    "FormatError",
     "Fronts",
+    "Gap",
+    "Gaps",
+    "Graph",
+    "Item",
+    "Join",
+    "Need",
+    "Plan",
+    "Readers",
     "Refused",
+    "Segments",
     "SharedItem",
     "SharedPlan",
+    "Simulation",
+    "Spill",
+    "Stairs",
+    "States",
+    "TaskRefused",
+    "Tree",
+    "Workflow",
     "__version__",
     "best_postorder",
     "certify",
@@ -626,3 +647,29 @@ class Core:
         at = self.__dict__.pop("_at", None)  # none where its making was cut short
         if at is not None:
             self._end(at)
+
+
+# The objects stand over what is above.
+from ._refusals import TaskRefused  # noqa: E402
+from ._texts import FormatError  # noqa: E402
+from .graphs import Graph  # noqa: E402
+from .results import (  # noqa: E402
+    Blockers,
+    Bound,
+    Claims,
+    Fences,
+    Gap,
+    Gaps,
+    Item,
+    Join,
+    Need,
+    Plan,
+    Readers,
+    Segments,
+    Simulation,
+    Spill,
+    Stairs,
+    States,
+)
+from .trees import Tree  # noqa: E402
+from .workflows import Workflow  # noqa: E402

@@ -2,7 +2,7 @@
 
 from __future__ import annotations
 
-from typing import TYPE_CHECKING, Any, Iterator, Protocol, Sequence, SupportsIndex, Tuple, Union
+from typing import TYPE_CHECKING, Any, Iterator, List, Protocol, Sequence, SupportsIndex, Tuple, Union
 
 if TYPE_CHECKING:
     from numpy import dtype, int64, ndarray
@@ -47,3 +47,6 @@ class SparseMatrix(Protocol):
 
 
 Matrix = Union[SparseMatrix, Tuple[WholeNumbers, WholeNumbers]]
+
+Tasks = Union[Array, List[Any]]
+"""Tasks as the caller calls them: an array of their numbers, or a list of their names."""

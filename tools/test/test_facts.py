@@ -95,7 +95,7 @@ OF_LIMITS = [
     (ADMISSION, r"\n_FORMAT = 3", "\n_FORMAT = 3  # of 2^40", f"{ADMISSION}, which states no limit elsewhere"),
     ("python/memplan/_numbers.py", r"at most 2\^60 together", "at most 2^62 together", f"sizes are at most N together is {2**62} and not {2**60}"),
     ("python/memplan/_numbers.py", r"U32 = Width", "# of 1,000,000 tasks\nU32 = Width", "python/memplan/_numbers.py, which states no limit elsewhere"),
-    ("python/memplan/_types.py", r"Matrix = Union", "# of 1,000,000 tasks\nMatrix = Union", "python/memplan/_types.py, which states no limit elsewhere"),
+    ("python/memplan/_types.py", r"Matrix = Union", "# of 1,000,000 tasks\nMatrix = Union", "whose other files state no limit: _types.py is 1 and not 0"),
     (FUZZ, r"MOST_ARCS = 2_000_001", "MOST_ARCS = 2_000_000", "ARCS is 2000000 and not 2000001"),
     (f"{REQUESTS}/request.rt", r"zeros <= (1 << 40|MOST_ZEROS)", "zeros <= 1 << 41", f"ZEROS is {2**40} and not {2**41}"),
     ("tools/explaining/judged.py", r'"arcs": 2_000_001', '"arcs": 2_000_000', "ARCS is 2000000 and not 2000001"),

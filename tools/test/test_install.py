@@ -59,11 +59,12 @@ class Installing(unittest.TestCase):
         self.run_words(caller)
 
     def check_python(self, folder: Path) -> None:
-        """The package finds the library that was installed with it, and has its types."""
+        """The package finds the library and the program that were installed with it, and has its types."""
         self.assertTrue((folder / "memplan/py.typed").exists())
         words = "import sys; sys.path[0] = sys.argv[1]; import memplan; print(memplan.__version__, memplan.plan([0], [7], [2])[1])"
+        words += "; print(*memplan.Tree([0], [7], [2]).segments())"
         version = re.search(r'MEMPLAN_VERSION "(.*)"', (ROOT / "c/memplan.h").read_text())[1]
-        self.assertEqual(self.run_words(sys.executable, "-Bc", words, str(folder)), f"{version} 9\n")
+        self.assertEqual(self.run_words(sys.executable, "-Bc", words, str(folder)), f"{version} 9\n1\n")
 
     def check_help(self, put: Path) -> None:
         """The man page and the completions lie where they are looked for, and bash's completes a word."""

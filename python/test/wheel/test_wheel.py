@@ -18,7 +18,8 @@ from typing import Dict, List, Set
 TOP = Path(__file__).resolve().parents[3]
 VERSION = re.findall(r'MEMPLAN_VERSION "(.*)"', (TOP / "c/memplan.h").read_text(encoding="utf-8"))[0]
 LIBRARY = Path(os.environ.get("MEMPLAN_LIBRARY") or TOP / "c/build/libmemplan.so")
-INSIDE = Path("memplan/libmemplan.so.1")
+PROGRAM = Path(os.environ.get("MEMPLAN_PROGRAM") or TOP / "prebuilt/Linux-x86_64/memplan")
+INSIDE, RUN = Path("memplan/libmemplan.so.1"), Path("memplan/memplan")
 MYPY = importlib.util.find_spec("mypy") is not None
 
 CALLER = """
@@ -30,12 +31,22 @@ mapped = {line.split()[-1] for line in open("/proc/self/maps") if "libmemplan" i
 print(peak, sorted(order), memplan.__version__, version("memplan"), *mapped)
 """
 
+RUNNER = """
+from memplan import Tree, _program
+
+tree = Tree([2, 0, 2], [5, 0, 5], [5, 0, 5], names=["down", "top", "up"])
+plan = tree.plan(evidence=True)
+tree.check(plan)
+ran = tree.simulate(plan, bound=15, workers=1)
+print(_program.find("simulate"), plan.peak, ran.makespan, ran.used)
+"""
+
 # What a checker has to refuse, and nothing else, is told at the ends of lines.
 TYPED = """
 from typing import List, Tuple
 
 import memplan
-from memplan import Certificate, Core
+from memplan import Certificate, Core, Fences, Graph as Tasks, Plan, Simulation, Tree, Workflow
 from memplan.admission import Admission, BoundTooLow, Graph
 
 parent, out, extra = [2, 5, 4, 5, 0], (1, 5, 1, 5, 0), range(5)
@@ -51,6 +62,20 @@ started: bool = core.start(core.activate())
 admission = Admission(Graph([(), {0}], [1, 2], [0, 0]), 3)
 tasks: List[int] = admission.ready()
 version: str = memplan.__version__
+tree = Tree(parent, out, extra, base=1, names=["a", "b", "c", "d", "e"])
+planned: Plan = tree.plan(evidence=True)
+tree.check(planned._replace(order=["a", "b", "c", "d", "e"]))
+ran: Simulation = tree.simulate(planned, bound=11, workers=2)
+spans: List[Tuple[object, int, int]] = ran.spans()
+graph = Tasks([0, 0], [(10, None, {1, 2}), (3, 1, [2])])
+fences: Fences = graph.fence([1, 2], bound=13, workers=None)
+workflow: Workflow = graph.reduce()
+mapped = Tasks.of_mapping({"load": [], "count": ["load"]}, size={"load": 3, "count": 4})
+Tree.of_mapping({"load": None}, out={"load": 3.5})  # refused
+Tree([0], out=[1])  # refused
+graph.fence([1, 2])  # refused
+planned.orders  # refused
+tree.parent = [1]  # refused
 memplan.plan([0.5], [1], [2])  # refused
 memplan.plan("0", [1], [2])  # refused
 memplan.plan({0}, [1], [2])  # refused
@@ -111,7 +136,7 @@ class Wheel(unittest.TestCase):
         folder = tempfile.TemporaryDirectory()
         cls.addClassCleanup(folder.cleanup)
         cls.folder = Path(folder.name)
-        cls.wheel = Path(run(sys.executable, TOP / "python/make_wheel.py", cls.folder / "dist", LIBRARY).rstrip())
+        cls.wheel = Path(run(sys.executable, TOP / "python/make_wheel.py", cls.folder / "dist", LIBRARY, PROGRAM).rstrip())
         run(sys.executable, "-m", "venv", "--without-pip", cls.folder / "fresh")
         cls.python = cls.folder / "fresh/bin/python"
         cls.bare = cls.installed()
@@ -139,11 +164,16 @@ class Wheel(unittest.TestCase):
         (lines,) = re.findall(r"```python\n(.*?)```", (TOP / "python/README.md").read_text(encoding="utf-8"), re.DOTALL)
         self.assertEqual(run(self.python, "-c", lines, where=self.folder), f"{VERSION} 11\n")
 
-    def test_it_has_the_packages_and_the_library(self) -> None:
+    def test_it_runs_the_program_inside(self) -> None:
+        written = run(self.python, "-c", RUNNER, where=self.folder).split()
+        (program,) = self.folder.glob(f"fresh/lib/python*/site-packages/{RUN}")
+        self.assertEqual(written, [str(program), "15", "3", "15"])
+
+    def test_it_has_the_packages_the_library_and_the_program(self) -> None:
         files = self.files()
         whole = [*(TOP / "python/memplan").iterdir(), *(TOP / "integrations/dask/memplan_dask").iterdir()]
         wanted = {f"{it.parent.name}/{it.name}": it.read_bytes() for it in whole if it.is_file()}
-        wanted[str(INSIDE)] = LIBRARY.read_bytes()
+        wanted[str(INSIDE)], wanted[str(RUN)] = LIBRARY.read_bytes(), PROGRAM.read_bytes()
         noted = f"memplan-{VERSION}.dist-info/"
         self.assertEqual({name: it for name, it in files.items() if not name.startswith(noted)}, wanted)
         self.assertEqual(set(files) - set(wanted), {noted + name for name in ("METADATA", "WHEEL", "RECORD")})

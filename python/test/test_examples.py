@@ -1,0 +1,85 @@
+"""The examples in the docstrings of the objects: each public method has one, and each is run, and so are those of docs/PYTHON.md."""
+
+from __future__ import annotations
+
+import doctest
+import importlib
+import inspect
+import re
+import tempfile
+import unittest
+from pathlib import Path
+from typing import Any, Dict, Iterator, Tuple
+
+import memplan
+from memplan import Graph, Item, Join, Tree
+
+try:
+    import networkx
+except ImportError:
+    networkx = None
+
+try:
+    import scipy.sparse
+except ImportError:
+    scipy = None
+
+TOP = Path(__file__).resolve().parents[2]
+MODULES = ["_refusals", "_texts", "_work", "graphs", "results", "trees", "workflows"]
+CLASSES = [memplan.Tree, memplan.Graph, memplan.Workflow, memplan.Plan, memplan.Fences, memplan.Simulation]
+
+FIVE = Tree([2, 5, 4, 5, 0], [1, 5, 1, 5, 0], [9, 0, 9, 0, 0], names=["a", "b", "c", "d", "top"])
+DIAMOND = Graph.of_mapping(
+    {"load": [], "count": ["load"], "sort": ["load"], "merge": ["count", "sort"]},
+    size={"load": 10, "count": 1, "sort": 10, "merge": 2},
+)
+
+
+def public(kind: type) -> Iterator[Tuple[str, Any]]:
+    for name, value in inspect.getmembers(kind):
+        its = value.fget if isinstance(value, property) else value
+        if not name.startswith("_") and callable(its) and (getattr(its, "__module__", None) or "").startswith("memplan"):
+            yield f"{kind.__name__}.{name}", its
+
+
+class Examples(unittest.TestCase):
+    def run_examples(self, test: doctest.DocTest) -> None:
+        if networkx is None and "networkx" in (test.docstring or ""):
+            self.skipTest("there is no networkx")
+        said: Any = []
+        runner = doctest.DocTestRunner(verbose=False)
+        runner.run(test, out=said.append)
+        self.assertEqual(runner.failures, 0, "".join(said))
+
+    def test_each_public_method_has_an_example(self) -> None:
+        for kind in CLASSES:
+            self.assertIn(">>> " if kind in (memplan.Tree, memplan.Graph, memplan.Workflow) else "", kind.__doc__ or "")
+            for name, value in public(kind):
+                self.assertIn(">>> ", value.__doc__ or "", name)
+
+    def test_they_say_what_is_so(self) -> None:
+        with tempfile.TemporaryDirectory() as folder:
+            given: Dict[str, Any] = {**vars(memplan), "FIVE": FIVE, "DIAMOND": DIAMOND, "FOLDER": Path(folder)}
+            given.update(EXAMPLES=TOP / "examples", networkx=networkx, Item=Item, Join=Join)
+            count = 0
+            for name in MODULES:
+                module = importlib.import_module(f"memplan.{name}")
+                for test in doctest.DocTestFinder(exclude_empty=True).find(module, extraglobs=given):
+                    if test.examples:
+                        count += 1
+                        with self.subTest(test.name):
+                            self.run_examples(test)
+            self.assertGreater(count, 40)
+
+    def test_the_page_says_what_is_so(self) -> None:
+        """The blocks of docs/PYTHON.md, one after the other."""
+        if networkx is None or scipy is None:
+            self.skipTest("there is no networkx, or no scipy")
+        page = (TOP / "docs/PYTHON.md").read_text(encoding="utf-8")
+        blocks = re.findall(r"```python\n(.*?)```", page, re.DOTALL)
+        self.assertGreater(len(blocks), 3)
+        self.run_examples(doctest.DocTestParser().get_doctest("\n".join(blocks), {}, "docs/PYTHON.md", None, 0))
+
+
+if __name__ == "__main__":
+    unittest.main()
