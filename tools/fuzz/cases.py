@@ -146,9 +146,14 @@ def simulate_options(draw: random.Random, bench: Bench, setting: Setting) -> Opt
 
 
 def fence_options(draw: random.Random, bench: Bench, setting: Setting) -> Options:
-    options = replay_options(draw, bench, setting)
-    bound = draw.choice([0, 5, 11, 1000, 2**40, 2**60, 2**64 - 1])
-    options.append(("--bound", str(near_peak(draw, bench, setting, options) if draw.random() < 0.8 else bound)))
+    options: Options = []
+    if draw.random() < 0.8:
+        options = replay_options(draw, bench, setting)
+        bound = draw.choice([0, 5, 11, 1000, 2**40, 2**60, 2**64 - 1])
+        options.append(("--bound", str(near_peak(draw, bench, setting, options) if draw.random() < 0.8 else bound)))
+        if draw.random() < 0.3:
+            # the order is planned
+            options = options[1:]
     return options + ([("--workers", draw.choice(["1", "2", "3", "16", "4096"]))] if draw.random() < 0.4 else [])
 
 
@@ -276,7 +281,7 @@ COMMANDS = {
 # Words of commands that the program may not know yet: it is then not asked for them.
 PROBES = {
     "upgrade": ["upgrade", "--tree=t"],
-    "fence": ["fence", "--tree=t", "--order=o", "--bound=0"],
+    "fence": ["fence", "--tree=t", "--bound=0"],
     "fronts": ["fronts", "--matrix=m", "--bound=0", "--workers=1"],
     "reduce": ["reduce", "--graph=g"],
     "bound": ["bound", "--graph=g"],

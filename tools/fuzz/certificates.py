@@ -1,7 +1,9 @@
-"""A plain judge of fence files, written from docs/FORMATS.md and docs/DEFINITIONS.md alone: a second opinion on each verdict; and all moments of
-parallel runs that keep to fences."""
+"""A plain judge of fence files, written from docs/FORMATS.md and docs/DEFINITIONS.md alone: a second opinion on each verdict; which fences forbid a
+run; and all moments of parallel runs that keep to fences."""
 from collections.abc import Iterator
+from functools import reduce
 from itertools import islice
+from operator import or_
 from typing import NamedTuple, Optional
 
 from formats import MOST_POSITIONS, MOST_TASKS
@@ -108,6 +110,11 @@ class Judge:
         if (certified := self.certified(links, amounts, room)) > bound - workers * room:
             yield f"bound {certified}"
 
+    def forbidding(self, fences: list[tuple[int, int]]) -> list[tuple[int, int]]:
+        """The fences that forbid some run of the system as it stands: of what they let a task wait for, some task need not be done before it."""
+        before = done_before(self.system)
+        return [(start, end) for start, end in fences if set_behind(self.system, start) & ~before[end - 1]]
+
     def in_circles(self, links: list[Link]) -> set[int]:
         """The tasks and joins that stand in no list in which each stands after all that it waits for."""
         left = set(range(1, self.count + 1))
@@ -138,26 +145,35 @@ class Judge:
         return handed_on[0] + sum(drawn)
 
 
+def set_behind(system: SharedSystem, number: int) -> int:
+    """The set of tasks that have to be done before a task or a join is over."""
+    if number <= system.count:
+        return 1 << number - 1
+    return sum(1 << reader for reader in system.shared_items()[number - system.count - 1].readers)
+
+
+def done_before(system: SharedSystem) -> list[int]:
+    """Of each task the set of those that are done before it starts in every run: it waits for its suppliers, and so do these."""
+    before, last = [0] * system.count, None
+    while before != last:
+        last = before
+        before = [reduce(or_, (1 << maker | last[maker] for maker in makers), 0) for makers in system.suppliers]
+    return before
+
+
 class Moments:
     """All moments that parallel runs reach which keep to fences, with no more tasks at once than there are workers; 0 is any number."""
 
     def __init__(self, system: SharedSystem, fences: list[tuple[int, int]], workers: int) -> None:
         self.system, self.workers = system, workers or system.count
-        self.joins = [item.readers for item in system.items if len(item.readers) > 1]
         # of each task, what fences let it wait for: sets of tasks
         self.waits: list[list[int]] = [[] for _ in range(system.count)]
         for start, end in fences:
-            self.waits[end - 1].append(self.behind(start))
-        self.most_used = 0
+            self.waits[end - 1].append(set_behind(system, start))
+        self.most_used = self.count = 0
         # which tasks are done where none runs and none may start
         self.stop: Optional[int] = None
         self.look()
-
-    def behind(self, number: int) -> int:
-        """The set of tasks that have to be done before a task or a join is over."""
-        if number <= self.system.count:
-            return 1 << number - 1
-        return sum(1 << reader for reader in self.joins[number - self.system.count - 1])
 
     def look(self) -> None:
         """Goes through all of them, each a set of done and one of running tasks."""
@@ -170,6 +186,7 @@ class Moments:
                 self.stop = done
             work += later - seen
             seen |= later
+        self.count = len(seen)
 
     def used(self, done: int, running: int) -> int:
         return self.system.memory(done) + sum(need for task, need in enumerate(self.system.needs) if running >> task & 1)

@@ -8,7 +8,11 @@ seed and the number of an input make it. Of each it asks:
 
 - at a bound from the peak of an order on, `fence` prints a file that the plain judge of certificates.py accepts, with this bound and for as many
   workers; the order keeps to its fences; and there are none where the bound has room for what all tasks need together;
+- of the tasks as they stand `fence` prints a file that the plain judge accepts too, for as many workers: no moment of a run without fences uses more
+  than its bound, and some moment uses all of it, if they are for any number of workers and no item has several readers; and its fences leave all
+  moments;
 - below the peak it tells the peak, and of a list that is no traversal the first fault;
+- without an order it does so by the peak of what `plan` prints, which is no lower than the least peak of all orders;
 - of such files, of random ones, and of those where an amount, a fence, a join, the bound, the workers or their room is changed, `check` says what
   the plain judge says;
 - no moment of a parallel run that keeps to the fences of an accepted file uses more than its bound, on no more workers than it says, and none is
@@ -16,7 +20,7 @@ seed and the number of an input make it. Of each it asks:
 - a file that is changed in a few bytes, tokens or lines is refused as the plain reader refuses it, or judged as what it says.
 
 Without PROGRAM the judge alone is asked, of random files. It prints how many inputs and files were tried, and for how many of those accepted some
-moment uses all of the bound. An input that is wrong is kept in FOLDER, and the status is then 1.
+moment uses all of the bound, and the same of the bounds of tasks as they stand. An input that is wrong is kept in FOLDER, and the status is then 1.
 """
 import argparse
 import json
@@ -25,14 +29,14 @@ import random
 import subprocess
 import sys
 import tempfile
-from collections.abc import Callable, Iterator
+from collections.abc import Callable, Generator, Iterator
 from pathlib import Path
 from typing import NamedTuple, Optional
 
 import formats
 from bench import BOUND, DONE, FORMAT, LIMIT, NO, SECONDS, Bench, Ending
 from certificates import MOST_AMOUNT, MOST_HANDED_ON, Certificate, Judge, Moments, certificate_of, text_of
-from models import SharedSystem, System, shared_of, shared_system_of_graph, system_of_tree, system_of_workflow
+from models import SharedSystem, System, planned_peak, shared_of, shared_system_of_graph, system_of_tree, system_of_workflow
 from random_files import (
     changed,
     listed,
@@ -51,12 +55,14 @@ MOST = 7
 
 
 class Result(NamedTuple):
-    """An input that was tried: how many files were accepted and how many not, of how many all of the bound is used, the runs that it took, and what
-    was wrong."""
+    """An input that was tried: how many files were accepted and how many not, of how many all of the bound is used, how many bounds there were of the
+    tasks as they stand, of how many all is used, the runs that it took, and what was wrong."""
 
     accepted: int
     refused: int
     met: int
+    standing: int
+    reached: int
     runs: int
     wrongs: list[str]
 
@@ -96,7 +102,7 @@ class Trial:
         self.judge = Judge(self.system)
         self.order = random_traversal(draw, self.system)
         self.peak = self.system.peak(self.order)
-        self.accepted = self.refused = self.met = 0
+        self.accepted = self.refused = self.met = self.standing = self.reached = 0
         # by fences and workers
         self.moments: dict[tuple[frozenset[tuple[int, int]], int], Moments] = {}
 
@@ -109,14 +115,37 @@ class Trial:
         if self.bench:
             yield from self.wrongs_of_refusals()
             for workers in (0, self.draw.randint(1, 4)):
+                yield from self.wrongs_of_standing(workers)
+                yield from self.wrongs_of_planned(workers)
                 for bound in (self.peak, self.peak + self.draw.randint(1, self.peak + 3)):
                     yield from self.wrongs_of_fence(bound, workers)
 
     # ---- what `fence` prints
 
-    def fence(self, bound: int, workers: int) -> Ending:
-        words = ["fence", self.option, "i", "--order", "o", "--bound", str(bound)]
-        return self.bench.run([*words, *(["--workers", str(workers)] if workers else [])])
+    def fence(self, bound: Optional[int], workers: int, order: Optional[str] = "o") -> Ending:
+        """Along the order of a file within a bound, or with none along one that is planned; or with no bound of the tasks as they stand."""
+        within = ["--bound", str(bound), *(["--order", order] if order else [])] if bound is not None else []
+        return self.bench.run(["fence", self.option, "i", *within, *(["--workers", str(workers)] if workers else [])])
+
+    def wrongs_of_standing(self, workers: int) -> Iterator[str]:
+        found = self.fence(None, workers)
+        _, refusal = formats.refusal_of(lambda: formats.read_fences(found.report))
+        if found.status != DONE or found.complaint or refusal:
+            yield f"fence for {workers} workers: {found}, {refusal}"
+            return
+        certificate, free = certificate_of(found.report), self.moments_of([], workers)
+        if text_of(certificate) != found.report:
+            yield f"fence prints no plain text: {found}"
+        if certificate.workers != workers or not self.judge.verdict(certificate).startswith("yes"):
+            yield f"fence for {workers} workers: {certificate}, of which the judge says {self.judge.verdict(certificate)}"
+            return
+        is_least = not workers and not self.judge.joins
+        if certificate.bound < free.most_used or is_least and certificate.bound > free.most_used:
+            yield f"some moment uses {free.most_used}, and none uses more, for {workers} workers: {certificate}"
+        if self.moments_of(certificate.fences, workers).count != free.count or self.judge.forbidding(certificate.fences):
+            yield f"fences forbid some run for {workers} workers: {self.judge.forbidding(certificate.fences)} of {certificate}"
+        self.standing, self.reached = self.standing + 1, self.reached + (certificate.bound == free.most_used)
+        yield from self.wrongs_of_file(found.report)
 
     def wrongs_of_refusals(self) -> Iterator[str]:
         workers = self.draw.randint(0, 3)
@@ -132,24 +161,43 @@ class Trial:
             yield f"fence along {other}: {found}"
         self.bench.write("o", listed(self.draw, self.order))
 
-    def wrongs_of_fence(self, bound: int, workers: int) -> Iterator[str]:
-        found = self.fence(bound, workers)
+    def wrongs_of_planned(self, workers: int) -> Iterator[str]:
+        """Along an order that is planned, within a bound round the least peak of all orders."""
+        least = min(map(self.system.peak, self.system.traversals()))
+        bound = max(0, least + self.draw.choice([-1, -1, 0, 0, 1, least]))
+        found, peak = self.fence(bound, workers, None), planned_peak(self.bench.run(["plan", self.option, "i"]).report)
+        if peak < least:
+            yield f"the plan has the peak {peak}, and no order has one below {least}"
+        elif peak <= bound:
+            yield from self.printed_fences(found, bound, workers)
+        elif found != Ending(BOUND, f"refused bound {bound} {peak}\n".encode(), b""):
+            yield f"fence within {bound}, where the plan has the peak {peak}: {found}"
+
+    def printed_fences(self, found: Ending, bound: int, workers: int) -> Generator[str, None, Optional[Certificate]]:
+        """What is wrong with a file of fences within a bound, and its certificate if the judge accepts it."""
         _, refusal = formats.refusal_of(lambda: formats.read_fences(found.report))
         if found.status != DONE or found.complaint or refusal:
-            yield f"fence within {bound} for {workers} workers along {self.order}: {found}, {refusal}"
-            return
+            yield f"fence within {bound} for {workers} workers: {found}, {refusal}"
+            return None
         certificate = certificate_of(found.report)
         if text_of(certificate) != found.report:
             yield f"fence prints no plain text: {found}"
         if (certificate.bound, certificate.workers) != (bound, workers) or not self.judge.verdict(certificate).startswith("yes"):
             yield f"fence within {bound} for {workers} workers: {certificate}, of which the judge says {self.judge.verdict(certificate)}"
+            return None
+        yield from self.wrongs_of_file(found.report)
+        return certificate
+
+    def wrongs_of_fence(self, bound: int, workers: int) -> Iterator[str]:
+        found = self.fence(bound, workers)
+        certificate = yield from self.printed_fences(found, bound, workers)
+        if certificate is None:
             return
         if not self.keeps_to(certificate.fences):
             yield f"the order {self.order} does not keep to {certificate.fences}"
         of_tasks = [fence for fence in certificate.fences if fence[0] <= self.system.count]
         if of_tasks and not workers and bound >= self.system.memory(0) + sum(self.system.needs):
             yield f"fences of tasks where there is room for all at once, within {bound}: {certificate}"
-        yield from self.wrongs_of_file(found.report)
         for other in self.changes(certificate):
             yield from self.wrongs_of_file(text_of(other))
         yield from self.wrongs_of_file(changed(self.draw, found.report))
@@ -283,7 +331,8 @@ class Worker:
             folder.mkdir(parents=True, exist_ok=True)
             (folder / "i").write_bytes(trial.text)
             (folder / "case.json").write_text(json.dumps({"option": trial.option, "wrong": wrongs}, indent=1) + "\n")
-        return Result(trial.accepted, trial.refused, trial.met, self.bench.runs - before if self.bench else 0, wrongs)
+        runs = self.bench.runs - before if self.bench else 0
+        return Result(trial.accepted, trial.refused, trial.met, trial.standing, trial.reached, runs, wrongs)
 
     def judged(self, trial: Trial) -> list[str]:
         wrongs = []
@@ -317,9 +366,10 @@ def main() -> int:
             for wrong in result.wrongs:
                 print(f"input {given.first + len(results)}: {wrong}", flush=True)
             results.append(result)
-    accepted, refused, met, runs = (sum(counts) for counts in zip(*((result[:4]) for result in results)))
+    accepted, refused, met, standing, reached, runs = (sum(counts) for counts in zip(*(result[:6] for result in results)))
     wrong = sum(1 for result in results if result.wrongs)
     files = f"{accepted} files accepted, of {met} some moment uses all of the bound; {refused} files not accepted"
+    files = f"{files}; {standing} bounds of tasks as they stand, all of {reached} used"
     print(f"{len(results)} inputs; {files}; {runs} runs of the program; {wrong} inputs wrong")
     return 1 if wrong else 0
 

@@ -590,7 +590,7 @@ COMMANDS: dict[str, tuple[set[str], list[set[str]], set[str]]] = {
     "check": ({"tree", "workflow", "matrix", "graph"}, [{"plan", "fences"}], {"workers"}),
     "simulate": ({"tree", "workflow", "matrix", "graph"}, [{"order", "plan"}, {"bound"}, {"workers"}], {"priority"}),
     "spill": ({"tree", "workflow", "matrix", "graph"}, [{"order", "plan"}, {"bound"}], set()),
-    "fence": ({"tree", "workflow", "matrix", "graph"}, [{"order", "plan"}, {"bound"}], {"workers"}),
+    "fence": ({"tree", "workflow", "matrix", "graph"}, [], {"order", "plan", "bound", "workers"}),
     "fronts": ({"matrix"}, [{"bound"}, {"workers"}], {"perm", "ordering"}),
     "segments": ({"tree", "workflow", "matrix"}, [], set()),
     "reduce": ({"graph"}, [], set()),
@@ -638,6 +638,8 @@ def request_of(words: list[str]) -> Optional[dict[str, str]]:
     if words[0] == "upgrade" and "priority" in names and "plan" not in names:
         return None
     if words[0] == "check" and {"fences", "workers"} <= names:
+        return None
+    if words[0] == "fence" and len(names & {"order", "plan"}) > len(names & {"bound"}):
         return None
     if words[0] == "plan" and names & {"order", "effort"} and "graph" not in names:
         return None

@@ -43,6 +43,7 @@ from models import (
     objection,
     parts_of,
     plan_of,
+    planned_peak,
     postorder_of,
     reduction_of,
     rows,
@@ -221,20 +222,33 @@ class Judge:
         yield from self.expect(Simulation(system, order, priority, bound, int(self.options["workers"])).report())
 
     def fence_ends(self) -> Iterator[str]:
-        system, order = system_of(self.bench, self.options), self.asked_order()
+        if "bound" not in self.options:
+            yield from self.wrongs_of_fences(None)
+            return
         bound = int(self.options["bound"])
+        if not {"order", "plan"} & self.options.keys():
+            peak = planned_peak(self.bench.run(["plan", *input_words(self.options)]).report)
+            yield from self.expect(f"refused bound {bound} {peak}\n") if peak > bound else self.wrongs_of_fences(bound)
+            return
+        system, order = system_of(self.bench, self.options), self.asked_order()
         fault = system.fault(order)
         if fault or system.peak(order) > bound:
             yield from self.expect(fault or f"refused bound {bound} {system.peak(order)}\n")
             return
+        yield from self.wrongs_of_fences(bound)
+
+    def wrongs_of_fences(self, bound: Optional[int]) -> Iterator[str]:
+        """Of a file of fences for a bound, or of one whose fences forbid no run."""
         if self.ending.status != DONE or formats.refusal_of(partial(formats.read_fences, self.ending.report))[1]:
             yield "this is no file of fences"
             return
-        made = certificate_of(self.ending.report)
-        if (made.bound, made.workers) != (bound, int(self.options.get("workers", 0))):
+        made, judge = certificate_of(self.ending.report), self.fence_judge()
+        if made.bound != (made.bound if bound is None else bound) or made.workers != int(self.options.get("workers", 0)):
             yield "these are fences for another bound, or other workers"
-        if (verdict := self.fence_judge().verdict(made)) != f"yes {bound}\n":
+        if (verdict := judge.verdict(made)) != f"yes {made.bound}\n":
             yield f"the fences have an objection: {verdict}"
+        elif bound is None and (forbidding := judge.forbidding(made.fences)):
+            yield f"of the tasks as they stand these fences forbid some run: {forbidding}"
         self.bench.write("made", self.ending.report)
         if self.bench.run(["check", *input_words(self.options), "--fences=made"]) != Ending(DONE, verdict.encode(), b""):
             yield "check does not say yes to the fences"

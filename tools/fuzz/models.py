@@ -479,6 +479,12 @@ class SharedSystem(SizedTasks):
         return whole
 
 
+def planned_peak(text: bytes) -> int:
+    """The peak that a plan of any version states."""
+    _, (_, count), *lines = rows(text)
+    return int(lines[int(count)][1])
+
+
 def shared_system_of_graph(text: bytes) -> SharedSystem:
     """That of a graph of either version."""
     (_, version), (_, count), *lines = rows(text)
