@@ -193,25 +193,11 @@ class Trial:
         certificate = yield from self.printed_fences(found, bound, workers)
         if certificate is None:
             return
-        if not self.keeps_to(certificate.fences):
-            yield f"the order {self.order} does not keep to {certificate.fences}"
-        of_tasks = [fence for fence in certificate.fences if fence[0] <= self.system.count]
-        if of_tasks and not workers and bound >= self.system.memory(0) + sum(self.system.needs):
-            yield f"fences of tasks where there is room for all at once, within {bound}: {certificate}"
+        if certificate.fences and not workers and bound >= self.system.memory(0) + sum(self.system.needs):
+            yield f"fences where there is room for all tasks at once, within {bound}: {certificate}"
         for other in self.changes(certificate):
             yield from self.wrongs_of_file(text_of(other))
         yield from self.wrongs_of_file(changed(self.draw, found.report))
-
-    def keeps_to(self, fences: list[tuple[int, int]]) -> bool:
-        """Whether the order keeps to fences."""
-        moments, done = self.moments_of(fences, 1), 0
-        for number in self.order:
-            if any(done & behind != behind for behind in moments.waits[number - 1]):
-                return False
-            done |= 1 << number - 1
-        return True
-
-    # ---- files
 
     def moments_of(self, fences: list[tuple[int, int]], workers: int) -> Moments:
         key = frozenset(fences), workers
