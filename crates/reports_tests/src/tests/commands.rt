@@ -126,7 +126,6 @@ const ANSWERS: &[(&str, &str)] = &[
     (PLAN_GRAPH, PLAN_OF_ZIGZAG),
     (FENCE, FENCED),
     (PLANNED_FENCE, FENCED),
-    ("fence --tree u --bound 8", "refused bound 8 9\n"),
     (STANDING, STILL),
     (CHECK_FENCES, "yes 9\n"),
     ("reduce --graph h", "workflow 1\ntasks 2\ndata 7\ndata 0\ndata 2\ntask 1 1\npar 2\ndata 0\ntask 1 1\nend\n# 1 1\n# 2 2\n"),
