@@ -1,6 +1,7 @@
 """Runs of the program in a folder of files."""
 import shutil
 import subprocess
+from collections.abc import Iterable
 from pathlib import Path
 from typing import NamedTuple, Optional
 
@@ -69,3 +70,16 @@ class Bench:
 
     def write(self, name: str, text: bytes) -> None:
         (self.folder / name).write_bytes(text)
+
+
+def told(wrongs: Iterable[str]) -> list[str]:
+    """All that is wrong. So is a run that takes too long, and an answer that the script cannot judge."""
+    found = []
+    try:
+        for wrong in wrongs:
+            found.append(wrong)
+    except subprocess.TimeoutExpired:
+        found.append(f"a run takes more than {SECONDS} seconds")
+    except (LookupError, ValueError) as error:
+        found.append(f"this script cannot judge it: {error!r}")
+    return found

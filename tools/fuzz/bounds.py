@@ -22,7 +22,6 @@ import argparse
 import json
 import multiprocessing
 import random
-import subprocess
 import sys
 import tempfile
 from collections.abc import Iterator
@@ -30,7 +29,7 @@ from pathlib import Path
 from typing import NamedTuple, Optional
 
 import formats
-from bench import DONE, FORMAT, LIMIT, NO, SECONDS, Bench, Ending
+from bench import DONE, FORMAT, LIMIT, NO, Bench, Ending, told
 from evidence import Blocker, BoundedPlan, Judge, bounded_plan_of, evidence_of, text_of
 from models import rows, shared_system_of_graph
 from random_files import changed, listed, random_forked_graph, random_layered_graph, random_shared_graph, random_traversal
@@ -216,24 +215,13 @@ class Worker:
             self.bench.put({})
         before = self.bench.runs
         trial = Trial(random.Random(f"{self.seed} {number}"), self.bench)
-        wrongs = self.judged(trial)
+        wrongs = told(trial.wrongs())
         if wrongs:
             folder = self.keep / str(number)
             folder.mkdir(parents=True, exist_ok=True)
             (folder / "graph").write_bytes(trial.text)
             (folder / "case.json").write_text(json.dumps({"wrong": wrongs}, indent=1) + "\n")
         return Result(trial.bound == trial.least, trial.planned == trial.least, len(trial.orders), self.bench.runs - before, wrongs)
-
-    def judged(self, trial: Trial) -> list[str]:
-        wrongs = []
-        try:
-            for wrong in trial.wrongs():
-                wrongs.append(wrong)
-        except subprocess.TimeoutExpired:
-            wrongs.append(f"a run takes more than {SECONDS} seconds")
-        except (LookupError, ValueError) as error:
-            wrongs.append(f"this script cannot judge it: {error!r}")
-        return wrongs
 
 
 def arguments() -> argparse.Namespace:

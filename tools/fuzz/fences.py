@@ -26,7 +26,6 @@ import argparse
 import json
 import multiprocessing
 import random
-import subprocess
 import sys
 import tempfile
 from collections.abc import Callable, Generator, Iterator
@@ -34,7 +33,7 @@ from pathlib import Path
 from typing import NamedTuple, Optional
 
 import formats
-from bench import BOUND, DONE, FORMAT, LIMIT, NO, SECONDS, Bench, Ending
+from bench import BOUND, DONE, FORMAT, LIMIT, NO, Bench, Ending, told
 from certificates import MOST_AMOUNT, MOST_HANDED_ON, Certificate, Judge, Moments, certificate_of, text_of
 from models import SharedSystem, System, planned_peak, shared_of, shared_system_of_graph, system_of_tree, system_of_workflow
 from random_files import (
@@ -311,7 +310,7 @@ class Worker:
             self.set_up()
         before = self.bench.runs if self.bench else 0
         trial = Trial(random.Random(f"{self.seed} {number}"), self.bench)
-        wrongs = self.judged(trial)
+        wrongs = told(trial.wrongs())
         if wrongs:
             folder = self.keep / str(number)
             folder.mkdir(parents=True, exist_ok=True)
@@ -319,17 +318,6 @@ class Worker:
             (folder / "case.json").write_text(json.dumps({"option": trial.option, "wrong": wrongs}, indent=1) + "\n")
         runs = self.bench.runs - before if self.bench else 0
         return Result(trial.accepted, trial.refused, trial.met, trial.standing, trial.reached, runs, wrongs)
-
-    def judged(self, trial: Trial) -> list[str]:
-        wrongs = []
-        try:
-            for wrong in trial.wrongs():
-                wrongs.append(wrong)
-        except subprocess.TimeoutExpired:
-            wrongs.append(f"a run takes more than {SECONDS} seconds")
-        except (LookupError, ValueError) as error:
-            wrongs.append(f"this script cannot judge it: {error!r}")
-        return wrongs
 
 
 def arguments() -> argparse.Namespace:

@@ -32,7 +32,6 @@ import json
 import multiprocessing
 import random
 import re
-import subprocess
 import sys
 import tempfile
 from collections.abc import Iterable, Iterator
@@ -40,7 +39,7 @@ from pathlib import Path
 from typing import NamedTuple, Optional
 
 import formats
-from bench import BOUND, DONE, FORMAT, LIMIT, NO, NOT_SERIES_PARALLEL, SECONDS, WORKING_SET, Bench, Ending
+from bench import BOUND, DONE, FORMAT, LIMIT, NO, NOT_SERIES_PARALLEL, WORKING_SET, Bench, Ending, told
 from judge import ending_of_spill
 from models import SharedSystem, Simulation, Spilling, collected, last_reader, plan_of, reduction_of, shared_system_of_graph, system_of_graph
 from random_files import changed, graph_text, listed, random_forked_graph, random_layered_graph, random_shared_graph, random_traversal
@@ -279,22 +278,12 @@ class Worker:
             self.set_up()
         runs_before = self.bench.runs if self.bench else 0
         trial = Trial(random.Random(f"{self.seed} {number}"), self.bench)
-        wrongs = self.judged(trial)
+        wrongs = told(trial.wrongs())
         if wrongs:
             self.keep_graph(number, trial, wrongs)
         runs = self.bench.runs - runs_before if self.bench else 0
         return Result(len(trial.system.shared_items()), not trial.refusal, len(trial.peaks), runs, wrongs)
 
-    def judged(self, trial: Trial) -> list[str]:
-        wrongs = []
-        try:
-            for wrong in trial.wrongs():
-                wrongs.append(wrong)
-        except subprocess.TimeoutExpired:
-            wrongs.append(f"a run takes more than {SECONDS} seconds")
-        except (LookupError, ValueError) as error:
-            wrongs.append(f"this script cannot judge it: {error!r}")
-        return wrongs
 
     def keep_graph(self, number: int, trial: Trial, wrongs: list[str]) -> None:
         folder = self.keep / str(number)
