@@ -19,7 +19,7 @@ use Rattle.matrix_files.specs.declared.kind.MatrixKind.TheVariants as kinds
 use Rattle.patterns.proofs.SameRows.{plain_pattern}
 use Rattle.lists.proofs.Bools.{positive}
 
-passes : {K : Type 0} (holds : Bool) (rest : Option (Refusal K)) (refusal : Refusal K)
+pub passes : {K : Type 0} (holds : Bool) (rest : Option (Refusal K)) (refusal : Refusal K)
     → cond holds rest (Some refusal) ≡ None → (holds ≡ true) × (rest ≡ None)
 passes true rest refusal none = (refl, none)
 passes false rest refusal none = absurd cc

@@ -1,5 +1,5 @@
--- Of a permutation file: what is read is a permutation, and no refusal is a limit.
-use Rattle.std.proofs.Common.{◌≡◌, ◌≢◌, ℕ, Bool, true, false, cond, ltb, leb, eqb, is_some, List, [], ◌∷◌, ◌++◌, length}
+-- Of a permutation file, and of numbers that count from a base: what is read is a permutation, and no refusal is a limit.
+use Rattle.std.proofs.Common.{◌≡◌, ◌≢◌, ℕ, Bool, true, false, ltb, leb, eqb, is_some, List, [], ◌∷◌, ◌++◌, length}
 use Rattle.std.proofs.Common.{map, Option, Some, None, inl, inr, refl, sym, subst, ◌∙◌, arith, append_assoc, append-nil}
 use Rattle.std.specs.Option.{option_or}
 use Rattle.std.proofs.lemmas.Bool.{and_parts, leb-true, eqb-true}
@@ -13,20 +13,17 @@ use Rattle.mp_text.specs.Ahead.{rows_of_bytes, past_of_bytes}
 use Rattle.mp_text.specs.Grammar.{Test, test, first_failure, tests_of_all, ArePassed, fault_at}
 use Rattle.mp_text.specs.Reading.{IsRefusal}
 use Rattle.mp_text.specs.ReadingLaws.{first_failure-append}
-use Rattle.matrix_files.specs.OrderFile.{value_of, tokens_of_rows, numbers_stated}
+use Rattle.matrix_files.specs.OrderFile.{value_of, tokens_of_rows}
+use Rattle.matrix_files.proofs.FileLemmas.{passes}
 use Rattle.matrix_files.proofs.OrderReaderLaws.{tokens-push}
 use Rattle.permutations.specs.Perm.{IsPart, IsPerm, IsVertex, times}
-use Rattle.matrix_files.specs.PermFile.{perm_token_tests, perm_format, is_vertex, ReadsPerm, IsPermRefusal}
+use Rattle.matrix_files.specs.PermFile.{counted, perm_token_tests, numbering_format, is_vertex, ReadsPerm, IsPermRefusal}
+use Rattle.matrix_files.specs.OrderReader.{ReadsNumbering, IsNumberingRefusal}
 use Rattle.matrix_files.specs.declared.perm_file.PermKind.{PermKind}
 use Rattle.matrix_files.specs.declared.perm_file.PermKind.TheVariants as kinds
 use Rattle.permutations.proofs.PermLemmas.{part-none, part-push, length-part, perm_from_part}
 
 -- ---- what passes is a part of a permutation
-
-passes : {K : Type 0} (holds : Bool) (rest : Option (Refusal K)) (refusal : Refusal K)
-    → cond holds rest (Some refusal) ≡ None → (holds ≡ true) × (rest ≡ None)
-passes true rest refusal none = (refl, none)
-passes false rest refusal none = absurd cc
 
 both_pass : {K : Type 0} (xs ys : List (Test K)) → first_failure (xs ++ ys) ≡ None → (first_failure xs ≡ None) × (first_failure ys ≡ None)
 both_pass {K} xs ys none = go (first_failure xs) refl where
@@ -37,9 +34,9 @@ both_pass {K} xs ys none = go (first_failure xs) refl where
   go None e = (e, same None e)
   go (Some r) e = absurd (let some = same (Some r) e in cc)
 
-token_passed : (n line : ℕ) (numbers token : List ℕ) → first_failure (perm_token_tests n line numbers token) ≡ None
-    → IsVertex n (value_of token) × (times numbers (value_of token) ≡ 0)
-token_passed n line numbers token none =
+token_passed : (base n line : ℕ) (numbers token : List ℕ) → first_failure (perm_token_tests base n line numbers token) ≡ None
+    → IsVertex n (counted base token) × (times numbers (counted base token) ≡ 0)
+token_passed base n line numbers token none =
     let one = passes _ _ _ none in
     let two = passes _ _ _ one.1 in
     let three = passes _ _ _ two.1 in
@@ -48,37 +45,58 @@ token_passed n line numbers token none =
     ((leb-true _ _ within.0, leb-true _ _ within.1), eqb-true _ _ four.0)
 
 -- the tests of tokens, each after those before it
-abbrev token_tests : ℕ → ℕ → List (List ℕ) → List ℕ → List (Test PermKind)
-token_tests n line earlier token = perm_token_tests n line (map value_of earlier) token
+abbrev token_tests : ℕ → ℕ → ℕ → List (List ℕ) → List ℕ → List (Test PermKind)
+token_tests base n line earlier token = perm_token_tests base n line (map (counted base) earlier) token
 
-part-tokens : (n line : ℕ) (earlier tokens : List (List ℕ)) → IsPart n (map value_of earlier)
-    → first_failure (tests_of_all (token_tests n line) earlier tokens) ≡ None
-    → IsPart n (map value_of (earlier ++ tokens))
-part-tokens n line earlier [] part none = rw append-nil part
-part-tokens n line earlier (token ∷ tokens) part none =
-    let both = both_pass (token_tests n line earlier token) (tests_of_all (token_tests n line) (earlier ++ token ∷ []) tokens) none in
-    let passed = token_passed n line (map value_of earlier) token both.0 in
-    let more = part-push n (map value_of earlier) (value_of token) part passed.0 passed.1 in
-    subst (λ (ts : List (List ℕ)). IsPart n (map value_of ts)) (append_assoc earlier (token ∷ []) tokens)
-    (part-tokens n line (earlier ++ token ∷ []) tokens (subst (IsPart n) (sym (map_push value_of earlier token)) more) both.1)
+part-tokens : (base n line : ℕ) (earlier tokens : List (List ℕ)) → IsPart n (map (counted base) earlier)
+    → first_failure (tests_of_all (token_tests base n line) earlier tokens) ≡ None
+    → IsPart n (map (counted base) (earlier ++ tokens))
+part-tokens base n line earlier [] part none = rw append-nil part
+part-tokens base n line earlier (token ∷ tokens) part none =
+    let both =
+    both_pass (token_tests base n line earlier token) (tests_of_all (token_tests base n line) (earlier ++ token ∷ []) tokens) none in
+    let passed = token_passed base n line (map (counted base) earlier) token both.0 in
+    let more = part-push n (map (counted base) earlier) (counted base token) part passed.0 passed.1 in
+    subst (λ (ts : List (List ℕ)). IsPart n (map (counted base) ts)) (append_assoc earlier (token ∷ []) tokens)
+    (part-tokens base n line (earlier ++ token ∷ []) tokens (subst (IsPart n) (sym (map_push (counted base) earlier token)) more) both.1)
 
-part-rows : (n : ℕ) (all before rest : List Row) → all ≡ before ++ rest
-    → ArePassed (perm_format n) all → IsPart n (numbers_stated before) → IsPart n (numbers_stated all)
-part-rows n all before [] e passed part = rw (e, append-nil) part
-part-rows n all before (row ∷ rest) e passed part =
-    part-rows n all (before ++ row ∷ []) rest (e ∙ sym (append_assoc before (row ∷ []) rest)) passed
-    (subst (λ (ts : List (List ℕ)). IsPart n (map value_of ts)) (sym (tokens-push before row))
-    (part-tokens n row.number (tokens_of_rows before) row.tokens part (passed before rest row e)))
+part-rows : (base n : ℕ) (all before rest : List Row) → all ≡ before ++ rest → ArePassed (numbering_format base n) all
+    → IsPart n (map (counted base) (tokens_of_rows before)) → IsPart n (map (counted base) (tokens_of_rows all))
+part-rows base n all before [] e passed part = rw (e, append-nil) part
+part-rows base n all before (row ∷ rest) e passed part =
+    part-rows base n all (before ++ row ∷ []) rest (e ∙ sym (append_assoc before (row ∷ []) rest)) passed
+    (subst (λ (ts : List (List ℕ)). IsPart n (map (counted base) ts)) (sym (tokens-push before row))
+    (part-tokens base n row.number (tokens_of_rows before) row.tokens part (passed before rest row e)))
 
-pub perm_from_read : (n : ℕ) (bytes order : List ℕ) → ReadsPerm n bytes order → IsPerm n order
-perm_from_read n bytes order reads =
+pub numbering_is_perm : (base n : ℕ) (bytes numbers : List ℕ) → ReadsNumbering base n bytes numbers → IsPerm n numbers
+numbering_is_perm base n bytes numbers reads =
     let rows = rows_of_bytes Commented bytes in
-    let part = part-rows n rows [] rows refl reads.form.lines (part-none n) in
-    let most = length-part n (numbers_stated rows) part in
+    let stated = map (counted base) (tokens_of_rows rows) in
+    let part = part-rows base n rows [] rows refl reads.form.lines (part-none n) in
+    let most = length-part n stated part in
     let least =
     leb-true _ _ (passes (leb n (length (tokens_of_rows rows))) None (fault_at (past_of_bytes bytes) kinds.Count) reads.form.end).0 in
-    let long = length-map (tokens_of_rows rows) value_of in
-    rw reads.stated (perm_from_part n (numbers_stated rows) part (omega arith))
+    let long = length-map (tokens_of_rows rows) (counted base) in
+    rw reads.stated (perm_from_part n stated part (omega arith))
+
+-- ---- numbers from 1
+
+counted_one : (tokens : List (List ℕ)) → map (counted 1) tokens ≡ map value_of tokens
+counted_one [] = refl
+counted_one (token ∷ tokens) = let here : counted 1 token ≡ value_of token = omega arith in rw (here, counted_one tokens) refl
+
+pub reads_perm : (n : ℕ) (bytes order : List ℕ) → ReadsNumbering 1 n bytes order → ReadsPerm n bytes order
+reads_perm n bytes order reads =
+    record { form = reads.form; stated = reads.stated ∙ counted_one (tokens_of_rows (rows_of_bytes Commented bytes)) }
+
+pub perm_from_read : (n : ℕ) (bytes order : List ℕ) → ReadsPerm n bytes order → IsPerm n order
+perm_from_read n bytes order reads = numbering_is_perm 1 n bytes order
+    (record { form = reads.form; stated = reads.stated ∙ sym (counted_one (tokens_of_rows (rows_of_bytes Commented bytes))) })
+
+pub perm_refused : (n : ℕ) (bytes : List ℕ) (r : Refusal PermKind) → IsNumberingRefusal 1 n bytes r → IsPermRefusal n bytes r
+perm_refused n bytes refusals.NoMemory refused = tt
+perm_refused n bytes (refusals.Format f) refused = refused
+perm_refused n bytes (refusals.Limit l) refused = refused
 
 -- ---- no limit
 
@@ -92,22 +110,23 @@ no_limit_here l line true true false d more none e = cc
 no_limit_here l line true false c d more none e = cc
 no_limit_here l line false b c d more none e = cc
 
-no_limit_in : (l : LimitName) (n line : ℕ) (earlier tokens : List (List ℕ))
-    → first_failure (tests_of_all (token_tests n line) earlier tokens) ≢ Some (refusals.Limit l)
-no_limit_in l n line earlier [] e = cc
-no_limit_in l n line earlier (token ∷ tokens) e =
-    let value = value_of token in
-    let before = map value_of earlier in
-    no_limit_here l line (is_some (number_of token)) (ltb (length before) n) (is_vertex n value) (eqb (times before value) 0)
-    (tests_of_all (token_tests n line) (earlier ++ token ∷ []) tokens) (no_limit_in l n line (earlier ++ token ∷ []) tokens) e
+no_limit_in : (l : LimitName) (base n line : ℕ) (earlier tokens : List (List ℕ))
+    → first_failure (tests_of_all (token_tests base n line) earlier tokens) ≢ Some (refusals.Limit l)
+no_limit_in l base n line earlier [] e = cc
+no_limit_in l base n line earlier (token ∷ tokens) e =
+    let number = counted base token in
+    let before = map (counted base) earlier in
+    no_limit_here l line (is_some (number_of token)) (ltb (length before) n) (is_vertex n number) (eqb (times before number) 0)
+    (tests_of_all (token_tests base n line) (earlier ++ token ∷ []) tokens) (no_limit_in l base n line (earlier ++ token ∷ []) tokens) e
 
 no_limit_last : (l : LimitName) (line : ℕ) (a : Bool) → first_failure (test a (fault_at line kinds.Count) ∷ []) ≢ Some (refusals.Limit l)
 no_limit_last l line true e = cc
 no_limit_last l line false e = cc
 
-pub perm_refusal : (n : ℕ) (bytes : List ℕ) (r : Refusal PermKind)
-    → IsRefusal (perm_format n) (rows_of_bytes Commented bytes) (past_of_bytes bytes) r → IsPermRefusal n bytes r
-perm_refusal n bytes refusals.NoMemory refused = tt
-perm_refusal n bytes (refusals.Format f) refused = refused
-perm_refusal n bytes (refusals.Limit l) (inl line) = no_limit_in l n line.row.number (tokens_of_rows line.before) line.row.tokens line.fails
-perm_refusal n bytes (refusals.Limit l) (inr end) = no_limit_last l (past_of_bytes bytes) _ end.fails
+pub numbering_refusal : (base n : ℕ) (bytes : List ℕ) (r : Refusal PermKind)
+    → IsRefusal (numbering_format base n) (rows_of_bytes Commented bytes) (past_of_bytes bytes) r → IsNumberingRefusal base n bytes r
+numbering_refusal base n bytes refusals.NoMemory refused = tt
+numbering_refusal base n bytes (refusals.Format f) refused = refused
+numbering_refusal base n bytes (refusals.Limit l) (inl line) =
+    no_limit_in l base n line.row.number (tokens_of_rows line.before) line.row.tokens line.fails
+numbering_refusal base n bytes (refusals.Limit l) (inr end) = no_limit_last l (past_of_bytes bytes) _ end.fails

@@ -1,3 +1,4 @@
+pub mod InverseFile
 pub mod Kinds
 pub mod MatrixFile
 pub mod OrderFile

@@ -8,6 +8,9 @@ use Rattle.matrix_files.specs.declared.perm_file.PermKind.TheVariants as perms
 -- the word for it in reports
 abbrev pub order_file_word : OrderFileKind → List ℕ
 order_file_word order_files.Number = codes "number"
+order_file_word order_files.Header = codes "header"
+order_file_word order_files.Count = codes "count"
+order_file_word order_files.NoEnd = codes "no-end"
 
 abbrev pub perm_word : PermKind → List ℕ
 perm_word perms.Number = codes "number"

@@ -1,11 +1,17 @@
-//! Laws of matrix files, order files and permutation files: what holds of each, without a call.
+//! Laws of matrix files, order files, permutation files and files of places: what holds of each, without a call.
 
-ghost use Rattle.std.specs.Prelude.{◌≡◌, ◌⊎◌, ℕ, List};
+ghost use Rattle.std.specs.Prelude.{◌≡◌, ◌⊎◌, ◌≤◌, ℕ, List, [], ◌∷◌, decimal, length, map};
+ghost use Rattle.limits.specs.Limits.{most_bytes, most_order};
+ghost use Rattle.lists.specs.Numbers.{from_one, number_at};
+ghost use Rattle.mp_text.specs.declared.layout.Layout.TheVariants.{Commented};
+ghost use Rattle.mp_text.specs.Ahead.{rows_of_bytes};
+ghost use Rattle.mp_text.specs.Report.{text_of_lines};
 ghost use Rattle.mp_text.specs.declared.refusals.Refusal.{Refusal};
-ghost use Rattle.permutations.specs.Perm.{IsPerm};
+ghost use Rattle.permutations.specs.Perm.{IsPerm, IsVertex, place_of};
 ghost use Rattle.matrix_files.specs.MatrixFile.{ReadsPattern, RefusesPattern};
-ghost use Rattle.matrix_files.specs.OrderFile.{ReadsOrder, RefusesOrder};
+ghost use Rattle.matrix_files.specs.OrderFile.{ReadsOrder, RefusesOrder, numbers_stated};
 ghost use Rattle.matrix_files.specs.PermFile.{ReadsPerm, RefusesPerm};
+ghost use Rattle.matrix_files.specs.InverseFile.{base_stated, ReadsInverse, RefusesInverse};
 ghost use Rattle.matrix_files.specs.declared.kind.MatrixKind.{MatrixKind};
 ghost use Rattle.matrix_files.specs.declared.order_file.OrderFileKind.{OrderFileKind};
 ghost use Rattle.matrix_files.specs.declared.perm_file.PermKind.{PermKind};
@@ -58,3 +64,36 @@ pub fn exactly_one_perm()
 pub fn read_is_perm()
     ensures { (n : ℕ) (bytes order : List ℕ) → ReadsPerm n bytes order → IsPerm n order }
 {}
+
+/// A file of places is read as an order or refused, never both; it is read as one order only, and refused with one refusal only.
+pub fn exactly_one_inverse()
+    ensures some { (n : ℕ) (bytes : List ℕ) →
+        ((order : List ℕ) × ReadsInverse n bytes order) ⊎ ((refusal : Refusal PermKind) × RefusesInverse n bytes refusal) }
+    ensures not_both { (n : ℕ) (bytes order : List ℕ) (refusal : Refusal PermKind) →
+        ReadsInverse n bytes order → RefusesInverse n bytes refusal → ⊥ }
+    ensures one_order { (n : ℕ) (bytes one two : List ℕ) → ReadsInverse n bytes one → ReadsInverse n bytes two → one ≡ two }
+    ensures one_refusal { (n : ℕ) (bytes : List ℕ) (one two : Refusal PermKind) →
+        RefusesInverse n bytes one → RefusesInverse n bytes two → one ≡ two }
+{
+    text_laws::exactly_one::<PermKind>();
+}
+
+/// What a file of places is read as is a permutation, in which the place of each vertex v is the v-th number of the file, counted from 1.
+pub fn inverse_is_perm()
+    ensures perm { (n : ℕ) (bytes order : List ℕ) → ReadsInverse n bytes order → IsPerm n order }
+    ensures places { (n : ℕ) (bytes order : List ℕ) → ReadsInverse n bytes order → (v : ℕ) → IsVertex n v →
+        let rows = rows_of_bytes Commented bytes in
+        place_of order v ≡ from_one (base_stated rows) (number_at (numbers_stated rows) v) }
+{}
+
+/// An order that is printed, a vertex on a line, is read as it was, and its text is within the limit of bytes, so that a file of it can be
+/// read whole.
+pub fn printed_perm()
+    ensures reads { (n : ℕ) (order : List ℕ) → n ≤ most_order → IsPerm n order →
+        ReadsPerm n (text_of_lines (map (λ v. decimal v ∷ []) order)) order }
+    ensures short { (n : ℕ) (order : List ℕ) → n ≤ most_order → IsPerm n order →
+        length (text_of_lines (map (λ v. decimal v ∷ []) order)) ≤ most_bytes }
+{
+    text_laws::printed_number();
+    text_laws::printed_file();
+}

@@ -1,16 +1,19 @@
-//! Files about matrices: the coordinate format of Matrix Market, orders, and permutations.
+//! Files about matrices: the coordinate format of Matrix Market, orders, permutations, and their inverses.
 //!
-//! The definitions stand in specs/: `MatrixFile`, `OrderFile`, `PermFile`; the laws in [`laws`].
+//! The definitions stand in specs/: `MatrixFile`, `OrderFile`, `PermFile`, `InverseFile`; the laws in [`laws`].
 #![tactic(auto)]
 
+mod inverse_file;
 mod kind;
 pub mod laws;
 mod lines;
 mod order_file;
+mod order_lines;
 mod perm_file;
 mod reader;
 mod stage;
 
+pub use inverse_file::read_inverse;
 pub use kind::MatrixKind;
 pub use order_file::{OrderFileKind, read_order};
 pub use perm_file::{PermKind, read_perm};

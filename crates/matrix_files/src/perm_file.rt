@@ -1,11 +1,12 @@
-ghost use Rattle.std.specs.Prelude.{◌≡◌, MatchResult, IfOk};
+ghost use Rattle.std.specs.Prelude.{◌≡◌, false, IsTrue, MatchResult, MatchOption, IfOk};
+ghost use Rattle.lists.specs.Numbers.{from_one};
 ghost use Rattle.mp_text.specs.Ahead.{row};
 ghost use Rattle.mp_text.specs.Reading.{Gives, Steps, tested};
 ghost use Rattle.matrix_files.specs.OrderKinds.{perm_word};
-ghost use Rattle.matrix_files.specs.OrderFile.{value_of};
 ghost use Rattle.permutations.specs.Perm.{IsVertex, PermState, times};
-ghost use Rattle.matrix_files.specs.PermFile.{perm_token_tests, perm_format, ReadsPerm, IsPermRefusal};
+ghost use Rattle.matrix_files.specs.PermFile.{counted, is_vertex, perm_token_tests, numbering_format, ReadsPerm, IsPermRefusal};
 ghost use Rattle.matrix_files.specs.OrderReader.{vertex_step, perm_step, perm_end, took_perm};
+ghost use Rattle.matrix_files.specs.OrderReader.{ReadsNumbering, IsNumberingRefusal};
 
 use mp_text::{Kind, Layout, Line, Reader, Refusal, fault, number, read_with, tokens};
 use permutations::{PartialPerm, Perm};
@@ -45,33 +46,46 @@ impl Display for PermKind {
     }
 }
 
-/// The numbers of a permutation file that were taken so far.
+/// The numbers of a file that counts from `BASE`, those that were taken so far, counted from 1.
 #[derive(Drop)]
-struct PermReader {
+struct PermReader<const BASE: u32> {
     taken: PartialPerm,
 }
 
-impl Model for PermReader {
+impl<const BASE: u32> Model for PermReader<BASE> {
     ghost Value = { PermState };
 
     ghost view = { λ s. s.taken };
 }
 
-impl PermReader {
+// A number that counts from a base, counted from 1, where it is one of n.
+fn counted(base: u32, n: u32, value: u64) -> Option<u32>
+    ensures { MatchOption result (is_vertex n (from_one base value) ≡ false)
+        (λ v. (v ≡ from_one base value) × IsVertex n v × IsTrue (is_vertex n (from_one base value))) }
+{
+    let base = u64::from(base);
+    if value < base || value - base >= u64::from(n) {
+        return None;
+    }
+    Some((value - base) as u32 + 1)
+}
+
+impl<const BASE: u32> PermReader<BASE> {
     // The vertex that a token states, where it passes its tests.
     fn vertex(&self, line: u64, token: &[u8]) -> Result<u32, Refusal<PermKind>>
-        ensures vertex { Gives (tested (perm_token_tests self.now.n line self.now.numbers token.now) (value_of token.now)) result }
+        ensures vertex { let s = self.now in
+            Gives (tested (perm_token_tests BASE s.n line s.numbers token.now) (counted BASE token.now)) result }
         ensures range { IfOk result (λ v. IsVertex self.now.n v) }
         ensures fresh { IfOk result (λ v. times self.now.numbers v ≡ 0) }
     {
         let value = number(token).ok_or(fault(line, PermKind::Number))?;
-        if self.taken.len() >= self.taken.whole_len() as usize {
+        let n = self.taken.whole_len();
+        if self.taken.len() >= n as usize {
             return Err(fault(line, PermKind::Count));
         }
-        if value < 1 || value > u64::from(self.taken.whole_len()) {
+        let Some(vertex) = counted(BASE, n, value) else {
             return Err(fault(line, PermKind::Range));
-        }
-        let vertex = value as u32;
+        };
         if self.taken.has(vertex) {
             return Err(fault(line, PermKind::Repeated));
         }
@@ -81,7 +95,7 @@ impl PermReader {
     // Takes one token more.
     #[tactic(auto, unfolding(crate::specs::OrderReader::vertex_step))]
     fn take(&mut self, line: u64, token: &[u8]) -> Result<(), Refusal<PermKind>>
-        ensures { Steps (vertex_step line self.old token.now) result self.new }
+        ensures { Steps (vertex_step BASE line self.old token.now) result self.new }
     {
         let vertex = self.vertex(line, token)?;
         self.taken.push(vertex)?;
@@ -90,7 +104,7 @@ impl PermReader {
 
     // Takes the tokens of a line.
     fn take_line(&mut self, line: Line<'_>) -> Result<(), Refusal<PermKind>>
-        ensures { Steps (perm_step self.old (row line.entry.number line.entry.text.now)) result self.new }
+        ensures { Steps (perm_step BASE self.old (row line.entry.number line.entry.text.now)) result self.new }
     {
         for token in tokens(line.text) {
             self.take(line.number, token)?;
@@ -109,12 +123,12 @@ impl PermReader {
     }
 }
 
-impl Reader for PermReader {
+impl<const BASE: u32> Reader for PermReader<BASE> {
     type Kind = PermKind;
 
-    ghost format = { λ s. perm_format s.n };
+    ghost format = { λ s. numbering_format BASE s.n };
 
-    ghost took = { took_perm };
+    ghost took = { took_perm BASE };
 
     fn line(&mut self, line: Line<'_>) -> Result<(), Refusal<PermKind>> {
         self.take_line(line)
@@ -125,11 +139,22 @@ impl Reader for PermReader {
     }
 }
 
+/// The numbers that a file holds, counted from 1, where they are `n` that count from `BASE`, each once.
+pub(crate) fn read_numbering<const BASE: u32>(
+    alloc: Global,
+    bytes: &[u8],
+    n: u32,
+) -> Result<Perm, Refusal<PermKind>>
+    ensures { MatchResult result (λ perm. ReadsNumbering BASE n bytes.now perm) (IsNumberingRefusal BASE n bytes.now) }
+{
+    let taken = PartialPerm::new(alloc, n)?;
+    let reader = read_with(bytes, Layout::Commented, PermReader::<BASE> { taken })?;
+    Ok(reader.taken.finish())
+}
+
 /// The permutation of 1 to `n` that a file holds, or why it is refused. Linear in the file and in `n`. It answers no limit.
 pub fn read_perm(alloc: Global, bytes: &[u8], n: u32) -> Result<Perm, Refusal<PermKind>>
     ensures { MatchResult result (λ perm. ReadsPerm n bytes.now perm) (IsPermRefusal n bytes.now) }
 {
-    let taken = PartialPerm::new(alloc, n)?;
-    let reader = read_with(bytes, Layout::Commented, PermReader { taken })?;
-    Ok(reader.taken.finish())
+    read_numbering::<1>(alloc, bytes, n)
 }

@@ -5,3 +5,13 @@ pub enum Stage {
     Size,
     Entries,
 }
+
+/// What the reader of an order file expects next: any first line, numbers alone, or of a report `order N`, its numbers, nothing more.
+#[derive(Clone, Copy, Debug, PartialEq, Eq)]
+pub enum OrderStage {
+    Start,
+    Plain,
+    Count,
+    Listed,
+    Ended,
+}

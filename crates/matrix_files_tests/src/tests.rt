@@ -1,4 +1,5 @@
-//! Files by hand: matrices, orders and permutations.
+//! Files by hand: matrices, orders, permutations and their inverses.
 
+mod inverses;
 mod matrices;
 mod orders;

@@ -10,6 +10,13 @@ const ORDERS: &[(&str, &[u32])] = &[
     ("1 3 2 4 5\n", &[1, 3, 2, 4, 5]),
     ("# tasks\r\n1\t3\r\n\n% more\n 002", &[1, 3, 2]),
     ("0 4294967295", &[0, 4_294_967_295]),
+    // a report, as `post` prints it
+    ("peak 9\norder 3\n1\n3\n2\nend\n", &[1, 3, 2]),
+    (
+        "# peaks\npeak 18446744073709551615\r\n order\t03\n1 3\n\n2\n% the end\nend",
+        &[1, 3, 2],
+    ),
+    ("peak 0\norder 0\nend\n", &[]),
 ];
 
 #[test]
@@ -27,6 +34,26 @@ const REFUSED_ORDERS: &[(&str, &str)] = &[
     ("1\n\n2 x\n", "number at line 3"),
     ("1 # 2\n", "number at line 1"),
     ("-1\n", "number at line 1"),
+    ("1\npeak 9\n", "number at line 2"),
+    // a report
+    ("peak\n", "header at line 1"),
+    ("peak 9 order 1\n", "header at line 1"),
+    (
+        "peak 18446744073709551616\norder 0\nend\n",
+        "header at line 1",
+    ),
+    ("peak 9\n1\n", "header at line 2"),
+    ("peak 9\norder x\n", "header at line 2"),
+    ("peak 9\norder 1000001\n", "limit tasks"),
+    ("peak 9\norder 2\n1\nx\n", "number at line 4"),
+    ("peak 9\norder 2\n1 4294967296\n", "number at line 3"),
+    ("peak 9\norder 2\n1\n2 end\n", "count at line 4"),
+    ("peak 9\norder 2\n1\nend\n", "count at line 4"),
+    ("peak 9\norder 2\n1 2 3\nend\n", "count at line 3"),
+    ("peak 9\norder 1\n1\nend\n2\n", "count at line 5"),
+    ("peak 9\norder 1\n1\nend\nend\n", "count at line 5"),
+    ("peak 9\n", "no-end at line 2"),
+    ("peak 9\norder 1\n1\n", "no-end at line 4"),
 ];
 
 #[test]
@@ -40,7 +67,7 @@ fn refused_order_files(rt: HostRuntime) -> Result<(), Fail> {
 }
 
 // The order has these vertices by place, and these places by vertex.
-fn check_perm(rt: &impl Abort, perm: &Perm, vertices: &[u32], places: &[u32], said: &str) {
+pub fn check_perm(rt: &impl Abort, perm: &Perm, vertices: &[u32], places: &[u32], said: &str) {
     assert_eq!(rt; perm.len() as usize, vertices.len(), "{said}");
     assert_eq!(rt; places.len(), vertices.len(), "{said}");
     assert_eq!(rt; (perm.at(0), perm.place(0)), (0, 0), "{said}");

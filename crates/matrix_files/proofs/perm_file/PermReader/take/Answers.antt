@@ -6,9 +6,9 @@ use Rattle.matrix_files.proofs.perm_file.PermReader.take.Goals as goal
 
 pub returns-in_err-vertex : goal.returns-in_err-vertex
 unfolding vertex_step
-returns-in_err-vertex c =
+returns-in_err-vertex g c =
     let p = err_from_is_err_and c.from_residual.result c.from_residual.ensures.1 in
     let s = c.args.self.now in
     rw (p.1, p.2)
-    (Fails-tested (perm_token_tests s.n c.args.line s.numbers c.args.token.now)
+    (Fails-tested (perm_token_tests g.row.BASE s.n c.args.line s.numbers c.args.token.now)
     _ _ c.in_err-vertex.field-0.0 c.in_err-vertex.ensures.vertex)

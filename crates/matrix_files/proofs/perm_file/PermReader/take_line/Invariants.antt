@@ -5,5 +5,5 @@ use Rattle.matrix_files.specs.OrderReader.{vertex_step}
 use Rattle.matrix_files.proofs.perm_file.PermReader.take_line.Given as goal
 
 abbrev pub invariant-loop-token : goal.invariant-loop-token
-invariant-loop-token l = steps_of_all (vertex_step l.line.number) l.self l.token-iterator
-    ≡ steps_of_all (vertex_step l.line.number) l.fn.self (tokens_of l.line.text.now)
+invariant-loop-token g l = steps_of_all (vertex_step g.row.BASE l.line.number) l.self l.token-iterator
+    ≡ steps_of_all (vertex_step g.row.BASE l.line.number) l.fn.self (tokens_of l.line.text.now)

@@ -2,7 +2,7 @@ use Rattle.std.proofs.Common.{◌≡◌}
 use Rattle.mp_text.specs.Text.{tokens_of}
 use Rattle.mp_text.specs.Reading.{steps_of_all}
 use Rattle.matrix_files.specs.OrderReader.{number_step}
-use Rattle.matrix_files.proofs.order_file.OrderReader.take_line.Given as goal
+use Rattle.matrix_files.proofs.order_file.OrderReader.numbers_line.Given as goal
 
 abbrev pub invariant-loop-token : goal.invariant-loop-token
 invariant-loop-token l = steps_of_all (number_step l.line.number) l.self l.token-iterator
