@@ -43,7 +43,7 @@ supernodes_followed parents counts a r j some =
 -- ---- merged supernodes
 
 -- a number that passes stands among those that pass behind as many as pass before it
-picked : (p : ℕ → Bool) (n s : ℕ) → 1 ≤ s → s ≤ n → p s ≡ true
+pub picked : (p : ℕ → Bool) (n s : ℕ) → 1 ≤ s → s ≤ n → p s ≡ true
     → (1 ≤ count_by p (range_with_len 1 s)) × (count_by p (range_with_len 1 s) ≤ length (filter p (range_with_len 1 n)))
     × (get_or (filter p (range_with_len 1 n)) (count_by p (range_with_len 1 s) - 1) 0 ≡ s)
 picked p zero s low high passes = absurd (omega arith)

@@ -1,7 +1,7 @@
 -- The columns of fronts, one front after another: each vertex once. And lists that are written one after another.
 use Rattle.std.proofs.Common.{sym, ◌∙◌, subst, ap, ◌≡◌, inl, inr, ℕ, suc, ◌+◌, ◌<◌, ◌≤◌, ◌==◌, Bool, cond, List, filter}
 use Rattle.std.proofs.Common.{[], ◌∷◌, ◌++◌, length, get_or, map, drop, arith, refl}
-use Rattle.std.specs.List.{All, range_with_len}
+use Rattle.std.specs.List.{range_with_len}
 use Rattle.std.proofs.Math.Seq.{get_or-append_seam, drop-cons}
 use Rattle.std.proofs.lemmas.Bool.{cases_eq}
 use Rattle.std.proofs.lemmas.List.{map-append, append_assoc, length-append, get_or_append_left}
@@ -14,7 +14,7 @@ use Rattle.permutations.proofs.PermLemmas.{vertex_of_place, place_of_vertex}
 use Rattle.elim_tree.proofs.OnePostorder.{vertex_of, place_within}
 use Rattle.assembly_tree.specs.Assembly.{AssemblyTree, IsAssembly, super_of}
 use Rattle.equivalent_orders.specs.Fronts.{columns_in_front, vertices_in_front, vertices_along}
-use Rattle.equivalent_orders.proofs.Blocks.{members, members_vertices, blocks, blocks_perm}
+use Rattle.equivalent_orders.proofs.Blocks.{members, blocks, blocks_perm}
 use Rattle.equivalent_orders.proofs.Mapped.{perm_mapped}
 
 pub by_columns : (perm : List ℕ) (assembly : AssemblyTree) (fronts : List ℕ)
@@ -58,20 +58,11 @@ part_next n xs y ys part = (
 
 -- ---- an order that is written element by element, and list by list
 
-pub next_vertex : (n : ℕ) (f : ℕ → ℕ) (numbers xs whole : List ℕ) (i : ℕ) → i < length xs → numbers ++ map f (drop i xs) ≡ whole
-    → IsPart n whole → IsVertex n (f (get_or xs i 0)) × (times numbers (f (get_or xs i 0)) ≡ 0)
-next_vertex n f numbers xs whole i lt is part =
-    part_next n numbers (f (get_or xs i 0)) (map f (drop (suc i) xs))
-    (subst (IsPart n) (sym is ∙ ap (λ (ys : List ℕ). numbers ++ map f ys) (drop-cons xs i 0 lt)) part)
-
-pub more_numbers : (f : ℕ → ℕ) (numbers more xs whole : List ℕ) (i : ℕ) → i < length xs → numbers ++ map f (drop i xs) ≡ whole
-    → more ≡ numbers ++ f (get_or xs i 0) ∷ [] → more ++ map f (drop (i + 1) xs) ≡ whole
-more_numbers f numbers more xs whole i lt is added =
-    let next : i + 1 ≡ suc i = omega arith in
-    ap (λ (ys : List ℕ). ys ++ map f (drop (i + 1) xs)) added
-    ∙ append_assoc numbers (f (get_or xs i 0) ∷ []) (map f (drop (i + 1) xs))
-    ∙ ap (λ (k : ℕ). numbers ++ f (get_or xs i 0) ∷ map f (drop k xs)) next
-    ∙ ap (λ (ys : List ℕ). numbers ++ map f ys) (sym (drop-cons xs i 0 lt)) ∙ is
+pub next_vertex : (n : ℕ) (numbers xs whole : List ℕ) (i : ℕ) → i < length xs → numbers ++ drop i xs ≡ whole
+    → IsPart n whole → IsVertex n (get_or xs i 0) × (times numbers (get_or xs i 0) ≡ 0)
+next_vertex n numbers xs whole i lt is part =
+    part_next n numbers (get_or xs i 0) (drop (suc i) xs)
+    (subst (IsPart n) (sym is ∙ ap (λ (ys : List ℕ). numbers ++ ys) (drop-cons xs i 0 lt)) part)
 
 module _ (perm : List ℕ) (assembly : AssemblyTree) (numbers fronts whole : List ℕ) (i : ℕ) (lt : i < length fronts)
     (is : numbers ++ vertices_along perm assembly (drop i fronts) ≡ whole) where
@@ -106,9 +97,6 @@ part_of_perm n xs is = record { vertices = is.vertices; once = at_most }
               let one = is.once v (subst (IsVertex n) (place-vertex xs v ne) (vertex_of n xs is (place_of xs v) (omega arith, omega arith))) in
               omega arith
         ]
-
-pub columns_are : (assembly : AssemblyTree) (s : ℕ) → All (IsVertex (length assembly.nodes)) (columns_in_front assembly s)
-columns_are assembly s = members_vertices (length assembly.nodes) (λ j. super_of assembly.nodes j) s
 
 -- ---- columns by their fronts
 

@@ -1,5 +1,6 @@
 -- An order whose vertices get other numbers.
-use Rattle.std.proofs.Common.{sym, ◌∙◌, ap, ◌≡◌, inl, inr, ℕ, zero, suc, ◌+◌, List, [], ◌∷◌, length, map, arith, refl}
+use Rattle.std.proofs.Common.{sym, ◌∙◌, ap, ◌≡◌, inl, inr, ℕ, zero, suc, ◌+◌, ◌-◌, ◌≤◌}
+use Rattle.std.proofs.Common.{List, [], ◌∷◌, length, get_or, map, arith, refl}
 use Rattle.std.specs.List.{All}
 use Rattle.std.proofs.lemmas.Bool.{cases_eq}
 use Rattle.std.proofs.lemmas.List.{get_or-map, length-map}
@@ -12,6 +13,11 @@ use Rattle.elim_tree.proofs.OnePostorder.{place_within}
 pub at_place : (xs : List ℕ) (f : ℕ → ℕ) (k n : ℕ) → length xs ≡ n → IsVertex n k → vertex_at (map f xs) k ≡ f (vertex_at xs k)
 at_place xs f zero n len vk = absurd (let some = vk.0 in omega arith)
 at_place xs f (suc i) n len vk = let le = vk.1 in get_or-map f xs i 0 0 (omega arith)
+
+-- the vertex at a place, by its position from 0
+pub at_place_before : (xs : List ℕ) (k : ℕ) → 1 ≤ k → get_or xs (k - 1) 0 ≡ vertex_at xs k
+at_place_before xs zero some = absurd (omega arith)
+at_place_before xs (suc i) some = let e : suc i - 1 ≡ i = omega arith in ap (λ (k : ℕ). get_or xs k 0) e
 
 -- the new number of a vertex, and the old one
 module _ (n : ℕ) (new old : ℕ → ℕ) (is_new : (v : ℕ) → IsVertex n v → IsVertex n (new v))

@@ -14,6 +14,11 @@ use Rattle.elim_tree.proofs.OnePostorder.{same_list}
 use Rattle.elim_tree.proofs.RowSubtrees.{above_le}
 use Rattle.equivalent_orders.proofs.Mapped.{at_place}
 
+-- a column by its number stands at this place
+pub place_own : (n a : ℕ) → a ≤ n → place_of (range_with_len 1 n) a ≡ a
+place_own n a le =
+    ap (place_of (range_with_len 1 n)) (sym (vertex_identity n a le)) ∙ place_of_vertex n (range_with_len 1 n) (perm_identity n) a le
+
 module _ (parents : List ℕ) (forest : IsForest parents) (together : IsNumberedInPostorder parents) where
   rises : (x : ℕ) → 0 < parent_at parents x → x < parent_at parents x
   rises x some = (forest.rising x some).0
@@ -26,11 +31,6 @@ module _ (parents : List ℕ) (forest : IsForest parents) (together : IsNumbered
       let rise = rises a some in
       absurd (omega arith)
   above_between (step some rest) (step more up) le = above_between rest up le
-
-  place_own : (a : ℕ) → a ≤ length parents → place_of (range_with_len 1 (length parents)) a ≡ a
-  place_own a le =
-      ap (place_of (range_with_len 1 (length parents))) (sym (vertex_identity (length parents) a le))
-      ∙ place_of_vertex (length parents) (range_with_len 1 (length parents)) (perm_identity (length parents)) a le
 
   rising : (a b : ℕ) → Precedes parents a b → a < b
   rising a b (below up ne) = let le = above_le rises up in omega arith
@@ -55,8 +55,8 @@ module _ (parents : List ℕ) (forest : IsForest parents) (together : IsNumbered
     perm = perm_identity (length parents);
     before = λ a b va vb before.
         let less = rising a b before in
-        let here = place_own a va.1 in
-        let there = place_own b vb.1 in
+        let here = place_own (length parents) a va.1 in
+        let there = place_own (length parents) b vb.1 in
         omega arith;
   }
 

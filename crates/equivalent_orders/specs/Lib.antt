@@ -1,3 +1,4 @@
+pub mod FrontPostorders
 pub mod Fronts
 pub mod Orders
 pub mod Samples

@@ -1,15 +1,15 @@
-ghost use Rattle.std.specs.Prelude.{◌≡◌, ◌++◌, ◌+◌, ◌≤◌, ℕ, All, length, map, IfOk, OnOk};
+ghost use Rattle.std.specs.Prelude.{◌≡◌, ◌++◌, ◌∷◌, ◌+◌, ◌≤◌, ℕ, length, map, IfOk, OnOk};
 ghost use Rattle.std.specs.List.{range_with_len};
 ghost use Rattle.row_table.specs.Rows.{row_at};
-ghost use Rattle.permutations.specs.Perm.{IsPart, IsPerm, IsVertex, vertex_at};
-ghost use Rattle.assembly_tree.specs.Assembly.{super_of};
-ghost use Rattle.equivalent_orders.specs.Fronts.{columns_in_front, vertices_along};
+ghost use Rattle.permutations.specs.Perm.{IsPart};
+ghost use Rattle.assembly_tree.specs.Assembly.{columns_in, super_of};
+ghost use Rattle.equivalent_orders.specs.Fronts.{columns_in_front, vertices_in_front, vertices_along};
 
 use crate::NoMemory;
-use assembly_tree::Assembly;
+use assembly_tree::{Assembly, Super};
 use permutations::{PartialPerm, Perm};
-use row_table::RowTable;
 use row_table::laws::numbers_law;
+use row_table::{RowBuilder, RowTable};
 use std::alloc::Global;
 
 // The front of each column.
@@ -34,14 +34,45 @@ pub fn columns_by_front(alloc: Global, assembly: &Assembly) -> Result<RowTable, 
     RowTable::group(alloc, &fronts, count, 1)
 }
 
-// The vertices of some columns, one after another.
-fn push_vertices(order: &mut PartialPerm, perm: &Perm, columns: &[u32]) -> Result<(), NoMemory>
-    requires columns { All (IsVertex (length perm.now)) columns.now }
-    requires part { IsPart order.old.n (order.old.numbers ++ map (vertex_at perm.now) columns.now) }
-    ensures { OnOk result (order.new ≡ record order.old { numbers = order.old.numbers ++ map (vertex_at perm.now) columns.now }) }
+// How many columns each front has, after a 0.
+fn rooms_of_fronts(alloc: Global, supers: &[Super]) -> Result<Vec<u32>, NoMemory>
+    ensures { IfOk result (λ rooms. rooms.items ≡ 0 ∷ map columns_in supers.now) }
 {
-    for column in columns {
-        order.push(perm.at(*column))?;
+    let mut rooms = Vec::with_capacity(alloc, supers.len() + 1)?;
+    rooms.push(0)?;
+    for front in supers {
+        rooms.push(front.columns)?;
+    }
+    Ok(rooms)
+}
+
+/// The vertices of the columns of each front, where the columns are numbered in the order `perm`: row s has those of front s, by rising
+/// column, and row 0 has none. Linear in the columns.
+pub fn vertices_by_front(
+    alloc: Global,
+    perm: &Perm,
+    assembly: &Assembly,
+) -> Result<RowTable, NoMemory>
+    requires columns { length perm.now ≡ length assembly.now.nodes }
+    ensures len { IfOk result (λ rows. length rows ≡ length assembly.now.supers + 1) }
+    ensures rows { IfOk result (λ rows.
+        (s : ℕ) → s ≤ length assembly.now.supers → row_at rows s ≡ vertices_in_front perm.now assembly.now s) }
+{
+    let rooms = rooms_of_fronts(alloc, assembly.supers())?;
+    let mut rows = RowBuilder::new(alloc, &rooms)?;
+    for column in 1..assembly.columns() + 1 {
+        rows.push(assembly.super_of(column), perm.at(column));
+    }
+    Ok(rows.into_table())
+}
+
+// Puts further vertices at the end of an order.
+fn push_vertices(order: &mut PartialPerm, vertices: &[u32]) -> Result<(), NoMemory>
+    requires { IsPart order.old.n (order.old.numbers ++ vertices.now) }
+    ensures { OnOk result (order.new ≡ record order.old { numbers = order.old.numbers ++ vertices.now }) }
+{
+    for vertex in vertices {
+        order.push(*vertex)?;
     }
     Ok(())
 }
@@ -52,18 +83,18 @@ pub fn order_along(
     alloc: Global,
     perm: &Perm,
     assembly: &Assembly,
-    fronts: &[u32],
+    fronts: &Perm,
 ) -> Result<Perm, NoMemory>
     requires columns { length perm.now ≡ length assembly.now.nodes }
-    requires fronts { IsPerm (length assembly.now.supers) fronts.now }
+    requires fronts { length fronts.now ≡ length assembly.now.supers }
     ensures { IfOk result (λ order. order ≡ vertices_along perm.now assembly.now fronts.now) }
 {
     perm.keeps();
     let _supers = assembly.supers();
-    let columns = columns_by_front(alloc, assembly)?;
+    let vertices = vertices_by_front(alloc, perm, assembly)?;
     let mut order = PartialPerm::new(alloc, perm.len())?;
-    for front in fronts {
-        push_vertices(&mut order, perm, columns.row(*front))?;
+    for place in 1..fronts.len() + 1 {
+        push_vertices(&mut order, vertices.row(fronts.at(place)))?;
     }
     Ok(order.finish())
 }

@@ -1,15 +1,22 @@
 //! Laws of orders of elimination: which of them have the same fill and the same elimination tree.
 
 ghost use Rattle.std.specs.Prelude.{◌≡◌, ◌↔◌, ℕ, Bool, List, Option, length};
+ghost use Rattle.std.specs.List.{range_with_len};
+ghost use Rattle.mp_system.specs.Traversal.{IsTraversal};
 ghost use Rattle.patterns.specs.Pattern.{IsPattern, is_joined};
-ghost use Rattle.permutations.specs.Perm.{IsPerm, IsVertex};
+ghost use Rattle.permutations.specs.Perm.{IsPerm, IsVertex, place_of};
 ghost use Rattle.ordering.specs.Fill.{IsAdjacency};
 ghost use Rattle.elim_tree.specs.Paths.{IsWithin};
 ghost use Rattle.elim_tree.specs.Postorders.{IsPostordered};
-ghost use Rattle.assembly_tree.specs.Assembly.{AssemblyTree};
+ghost use Rattle.trees.specs.Tree.{system_of_nodes};
+ghost use Rattle.assembly_tree.specs.declared.assembly.Super.{Super};
+ghost use Rattle.assembly_tree.specs.declared.front.Shape.{Shape};
+ghost use Rattle.assembly_tree.specs.Assembly.{AssemblyTree, IsAssembly, IsSuper};
+ghost use Rattle.assembly_tree.specs.Fronts.{nodes_of_fronts};
 ghost use Rattle.symbolic.specs.FrontTree.{IsAnalysis, relaxed};
 ghost use Rattle.equivalent_orders.specs.Orders.{IsTopological, is_in_column, parent_vertex, column_count};
 ghost use Rattle.equivalent_orders.specs.Fronts.{IsFrontOrder, front_of_vertex, vertices_along};
+ghost use Rattle.equivalent_orders.specs.FrontPostorders.{IsFrontPostorder, StandTogether, fronts_along};
 
 use assembly_tree::laws as assembly_laws;
 use elim_tree::laws as tree_laws;
@@ -64,6 +71,33 @@ pub fn same_fronts()
     front_laws::one_analysis();
 }
 
+/// Fronts in a postorder of their tree, none merged, give an order of elimination that is its own natural postorder: a solver that
+/// postorders the elimination tree of this order keeps it. Its analysis has the same fronts, each with as many columns and rows, and with
+/// the same parent, numbered in that postorder: so the solver makes them in just that order. Liu 1986, 1990.
+pub fn fronts_in_postorder()
+    ensures kept { (rows : List (List ℕ)) (order perm fronts : List ℕ) (assembly : AssemblyTree) → IsPattern rows →
+        IsPerm (length rows) order → IsAnalysis rows order perm assembly → IsFrontPostorder assembly.supers fronts →
+        IsPostordered (is_joined rows) (vertices_along perm assembly fronts) (vertices_along perm assembly fronts) }
+    ensures own { (rows : List (List ℕ)) (order perm fronts : List ℕ) (assembly : AssemblyTree) → IsPattern rows →
+        IsPerm (length rows) order → IsAnalysis rows order perm assembly → IsFrontPostorder assembly.supers fronts →
+        IsAnalysis rows (vertices_along perm assembly fronts) (vertices_along perm assembly fronts) (fronts_along assembly fronts) }
+    ensures in_turn { (rows : List (List ℕ)) (order perm fronts : List ℕ) (assembly : AssemblyTree) → IsPattern rows →
+        IsPerm (length rows) order → IsAnalysis rows order perm assembly → IsFrontPostorder assembly.supers fronts →
+        (v : ℕ) → IsVertex (length rows) v →
+        front_of_vertex (vertices_along perm assembly fronts) (fronts_along assembly fronts) v
+        ≡ place_of fronts (front_of_vertex perm assembly v) }
+{
+    tree_laws::pattern_of_rows();
+    tree_laws::tree_is_forest();
+    front_laws::one_analysis();
+}
+
+/// An order of the fronts with each before its parent is such a postorder where the fronts of each subtree are some of it in a row.
+pub fn subtrees_in_a_row()
+    ensures { (supers : List Super) (fronts : List ℕ) → IsFrontOrder supers fronts →
+        ((s : ℕ) → IsSuper supers s → StandTogether supers fronts s) → IsFrontPostorder supers fronts }
+{}
+
 /// The order along the postorder of an elimination tree is its own: its analysis is the same, with the same supernodes by the same numbers.
 pub fn own_analysis()
     ensures { (rows : List (List ℕ)) (order perm : List ℕ) (assembly : AssemblyTree) → IsPattern rows → length order ≡ length rows →
@@ -73,3 +107,19 @@ pub fn own_analysis()
     tree_laws::tree_is_forest();
     front_laws::one_analysis();
 }
+
+/// The traversals of the fronts of an assembly tree, taken as tasks, are the orders in which each front comes before its parent.
+pub fn front_orders()
+    ensures { (shape : Shape) (inplace : Bool) (assembly : AssemblyTree) (fronts : List ℕ) → IsAssembly assembly →
+        IsTraversal (system_of_nodes (nodes_of_fronts shape inplace assembly.supers)) fronts ↔ IsFrontOrder assembly.supers fronts }
+{}
+
+/// The fronts by rising number are such an order, and without merged fronts their columns are the order of elimination that the analysis
+/// numbers them in.
+pub fn own_fronts()
+    ensures order { (assembly : AssemblyTree) → IsAssembly assembly →
+        IsFrontOrder assembly.supers (range_with_len 1 (length assembly.supers)) }
+    ensures columns { (rows : List (List ℕ)) (order perm : List ℕ) (assembly : AssemblyTree) → IsPattern rows →
+        length order ≡ length rows → IsAnalysis rows order perm assembly →
+        vertices_along perm assembly (range_with_len 1 (length assembly.supers)) ≡ perm }
+{}

@@ -6,7 +6,7 @@
 mod columns;
 pub mod laws;
 
-pub use columns::{columns_by_front, order_along};
+pub use columns::{columns_by_front, order_along, vertices_by_front};
 use std::alloc::AllocError;
 
 /// Want of memory: an allocation was refused.
