@@ -12,6 +12,8 @@ ghost use Rattle.fencing.specs.Refusal.{IsCertifyingRefusal};
 use crate::NoMemory;
 use crate::choosing::best_chain;
 use crate::fencing::FencingRefusal;
+use crate::network::Network;
+use crate::pruning::pruned;
 use crate::rooms::{Chosen, fenced};
 use fences::{CertificateRefusal, FenceCertificate, judge_certificate};
 use mp_system::{OrderFault, ReplayRefusal, System};
@@ -120,13 +122,8 @@ fn found_along(
     }
 }
 
-/// A certificate, for so many workers or any number, that fences along a traversal keep a shared system within the bound. There is one for each
-/// bound from the order's peak on. Near linear in the tasks, the items and the readers of all items.
-///
-/// It is made by a search for good fences, which promises nothing and is judged; where that is not accepted, as it may be near the limits, by
-/// [`fence_along`](crate::fence_along). For at most so many workers several rooms for each of them are tried. Kept is one with which a run takes
-/// the least time by estimate; of those that take about as long the one with the fewest fences.
-pub fn certificate_along(
+// A certificate along a traversal, found by the search if it is accepted.
+fn made_along(
     alloc: Global,
     system: &SharedSystem,
     order: &[u32],
@@ -162,4 +159,92 @@ pub fn certificate_along(
         fences: fencing.fences,
         amounts: fencing.amounts,
     })
+}
+
+// The other certificate, if it has fewer fences and is accepted.
+fn fewer_of(
+    alloc: Global,
+    system: &SharedSystem,
+    certificate: FenceCertificate,
+    other: FenceCertificate,
+) -> Result<FenceCertificate, NoMemory>
+    requires certified { Certifies system.now certificate }
+    requires same { (other.bound ≡ certificate.bound) × (other.workers ≡ certificate.workers) }
+    ensures certified { IfOk result (Certifies system.now) }
+    ensures same { IfOk result (λ c. (c.bound ≡ certificate.bound) × (c.workers ≡ certificate.workers)) }
+    ensures few { IfOk result (λ c. length c.fences ≤ length certificate.fences) }
+{
+    if other.fences.len() >= certificate.fences.len() {
+        return Ok(certificate);
+    }
+    match judge_certificate(alloc, system, &other) {
+        Ok(()) => Ok(other),
+        Err(CertificateRefusal::NoMemory) => Err(AllocError),
+        Err(_) => Ok(certificate),
+    }
+}
+
+// A certificate with some of the fences of this one, if one is found.
+fn with_fewer(
+    alloc: Global,
+    system: &SharedSystem,
+    order: &[u32],
+    certificate: FenceCertificate,
+) -> Result<FenceCertificate, NoMemory>
+    requires traversal { IsSharedTraversal system.now order.now }
+    requires certified { Certifies system.now certificate }
+    ensures certified { IfOk result (Certifies system.now) }
+    ensures same { IfOk result (λ c. (c.bound ≡ certificate.bound) × (c.workers ≡ certificate.workers)) }
+    ensures few { IfOk result (λ c. length c.fences ≤ length certificate.fences) }
+{
+    order_law();
+    let Some(collected) = system.collected(alloc)? else {
+        return Ok(certificate);
+    };
+    let order = system.woven(alloc, order)?;
+    let tasks = system.tasks().len() as u32;
+    let network = Network::new(alloc, &collected, &order, tasks)?;
+    let Some(fencing) = pruned(alloc, &network, &certificate)? else {
+        return Ok(certificate);
+    };
+    let joins = join_places(alloc, system.items())?;
+    let other = FenceCertificate {
+        bound: certificate.bound,
+        workers: certificate.workers,
+        joins,
+        fences: fencing.fences,
+        amounts: fencing.amounts,
+    };
+    fewer_of(alloc, system, certificate, other)
+}
+
+/// A certificate, for so many workers or any number, that fences along a traversal keep a shared system within the bound. There is one for each
+/// bound from the order's peak on. Near linear in the tasks, the items and the readers of all items.
+///
+/// It is made by a search for good fences, which promises nothing and is judged; where that is not accepted, as it may be near the limits, by
+/// [`fence_along`](crate::fence_along). For at most so many workers several rooms for each of them are tried. Kept is one with which a run takes
+/// the least time by estimate; of those that take about as long the one with the fewest fences.
+///
+/// Where the fewest fences are asked for, those of them are left out whose amounts a further search can lead otherwise, those on the longest paths
+/// first. What is left is judged too, and never more. The steps of that search are limited: within the limit no other fence could be left out.
+pub fn certificate_along(
+    alloc: Global,
+    system: &SharedSystem,
+    order: &[u32],
+    bound: u64,
+    workers: Option<u32>,
+    fewest: bool,
+) -> Result<FenceCertificate, CertifyingRefusal>
+    requires workers { IfSome workers (λ count. 1 ≤ count) }
+    ensures along { IfOk result (λ _. IsSharedTraversal system.now order.now × (shared_peak_of system.now order.now ≤ bound)) }
+    ensures certified { IfOk result (Certifies system.now) }
+    ensures asked { IfOk result (λ c. (c.bound ≡ bound) × IsFor workers c.workers) }
+    ensures refused { IfErr result (IsCertifyingRefusal system.now order.now bound) }
+{
+    let made = made_along(alloc, system, order, bound, workers)?;
+    if fewest {
+        Ok(with_fewer(alloc, system, order, made)?)
+    } else {
+        Ok(made)
+    }
 }

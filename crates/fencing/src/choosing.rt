@@ -1,5 +1,6 @@
 //! The best fences of those that a search finds, which promises nothing. Where it is told for how many workers they are, it judges fences by a
-//! simulated run on so many: it tries some rooms for each worker, and then chains the schedule of the best run, again and again.
+//! simulated run on so many: it tries some rooms for each worker, and then chains the schedules of runs again and again, with the best of these
+//! rooms and with none: a room that is best at first may leave less to gain.
 
 ghost use Rattle.std.specs.Prelude.{ℕ, ◌≤◌, IfOk, IfSome};
 ghost use Rattle.mp_system.specs.Traversal.{IsTraversal};
@@ -17,7 +18,7 @@ use fences::Workers;
 use mp_system::System;
 use std::alloc::Global;
 
-// How many rooms are tried at most, and how often runs are chained at most, which takes about so many tries each time.
+// How many rooms are tried at most, and how often runs are chained at most with each of two rooms, which takes about so many tries each time.
 const MOST_ROOMS: u64 = 21;
 
 const ROUNDS: u64 = 6;
@@ -133,14 +134,14 @@ impl<'a> Search<'a> {
         Ok(())
     }
 
-    // Chains the runs with the best room, again and again.
+    // Chains the runs with a room again and again.
     fn chain_again(
         &mut self,
         alloc: Global,
         along: &Schedule,
+        room: u64,
         rounds: u64,
     ) -> Result<(), NoMemory> {
-        let room = self.room;
         let Some(left) = self.left_beside(room) else {
             return Ok(());
         };
@@ -206,7 +207,11 @@ fn best_for(
     let greatest = search.fitting(greatest);
     search.try_rooms(alloc, along, greatest, rooms)?;
     if rounds > 0 && !search.is_done() {
-        search.chain_again(alloc, along, rounds)?;
+        let room = search.room;
+        search.chain_again(alloc, along, room, rounds)?;
+        if room > 0 {
+            search.chain_again(alloc, along, 0, rounds)?;
+        }
     }
     Ok(best_of(search.candidates))
 }

@@ -8,6 +8,8 @@ use crate::NoMemory;
 use crate::backwards::Backwards;
 use crate::handing::{Handing, handed_on};
 use crate::max_flow::FlowNetwork;
+use crate::network::Network;
+use fences::Fence;
 use mp_system::Item;
 use std::alloc::Global;
 
@@ -20,25 +22,26 @@ pub struct LeastFlow {
     pub steps: u64,
 }
 
-// What goes into a task, and what out of it.
+/// What goes into a task, and what out of it.
 #[derive(Clone, Copy)]
-struct Ends {
-    size: u64,
-    into: u64,
-    out: u64,
+pub struct Ends {
+    pub size: u64,
+    pub into: u64,
+    pub out: u64,
 }
 
-const NO_ENDS: Ends = Ends {
+/// Nothing goes into it or out of it.
+pub const NO_ENDS: Ends = Ends {
     size: 0,
     into: 0,
     out: 0,
 };
 
-// What a task draws, what is left over there, and how much more than it holds goes through it.
-struct Through {
-    drawn: u64,
-    over: u64,
-    more: u64,
+/// What a task draws, what is left over there, and how much more than it holds goes through it.
+pub struct Through {
+    pub drawn: u64,
+    pub over: u64,
+    pub more: u64,
 }
 
 fn add_ends(all: &mut [Ends], from: u32, to: u32, size: u64, amount: u64) {
@@ -51,10 +54,15 @@ fn add_ends(all: &mut [Ends], from: u32, to: u32, size: u64, amount: u64) {
     }
 }
 
-// What goes into each task and out of it, by its number.
-fn ends_of(alloc: Global, search: &Backwards, amounts: &[u64]) -> Result<Vec<Ends>, NoMemory> {
-    let mut all = vec![in alloc; NO_ENDS; search.network.len()]?;
-    let (items, fences) = (search.network.items(), search.fences());
+/// What goes into each task and out of it, by its number.
+pub fn ends_of(
+    alloc: Global,
+    network: &Network,
+    fences: &[Fence],
+    amounts: &[u64],
+) -> Result<Vec<Ends>, NoMemory> {
+    let mut all = vec![in alloc; NO_ENDS; network.len()]?;
+    let items = network.items();
     for (k, amount) in amounts.iter().enumerate() {
         if let Some(Item { size, from, to }) = items.get(k).copied() {
             add_ends(&mut all, from.unwrap_or(0), to.unwrap_or(0), size, *amount);
@@ -65,8 +73,9 @@ fn ends_of(alloc: Global, search: &Backwards, amounts: &[u64]) -> Result<Vec<End
     Ok(all)
 }
 
-fn through_of(search: &Backwards, ends: Ends, task: u32, room: u64) -> Through {
-    let held = ends.size.saturating_add(search.network.taken(task, room));
+/// What goes through a task that needs less by the room of its worker.
+pub fn through_of(network: &Network, ends: Ends, task: u32, room: u64) -> Through {
+    let held = ends.size.saturating_add(network.taken(task, room));
     let through = held.max(ends.into).max(ends.out);
     Through {
         drawn: through.saturating_sub(ends.into),
@@ -124,7 +133,7 @@ fn add_tasks(
     let mut bound = search.network.stock();
     for task in search.network.order {
         let own = ends.get(*task as usize).copied().unwrap_or(NO_ENDS);
-        let Through { drawn, over, more } = through_of(search, own, *task, room);
+        let Through { drawn, over, more } = through_of(search.network, own, *task, room);
         let (into, out) = (node_into(*task), node_out(*task));
         flow.add_arc(source, out, over, 0)?;
         flow.add_arc(out, into, more, NO_LIMIT)?;
@@ -158,7 +167,7 @@ pub fn least_flow(
         ..
     } = handed_on(alloc, search, room)?;
     let made = made.saturating_add(amounts.len() as u64);
-    let ends = ends_of(alloc, search, &amounts)?;
+    let ends = ends_of(alloc, search.network, search.fences(), &amounts)?;
     let source = search.network.len().saturating_mul(2);
     let sink = source.saturating_add(1);
     let mut flow = FlowNetwork::new(alloc, sink.saturating_add(1), steps.saturating_sub(made))?;

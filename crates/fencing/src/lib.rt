@@ -9,7 +9,8 @@
 //!
 //! [`certificate_along`] does so for a shared system, and makes what is handed to others: the fences with all that certifies them, for any number
 //! of workers or for at most so many. For these, room is set aside for each, and the fences that are left are fewer.
-//! A search looks for better fences there: it promises nothing, and what it finds is judged.
+//! A search looks for better fences there: it promises nothing, and what it finds is judged. Another one leaves fences out, where the fewest are
+//! asked for.
 //!
 //! [`standing_certificate`] makes a certificate that forbids no run: of a bound that a system as it stands never passes, the least that a search
 //! for a least flow finds.
@@ -33,6 +34,7 @@ mod least_room;
 mod ledger;
 mod max_flow;
 mod network;
+mod pruning;
 mod rooms;
 mod schedule;
 mod simulating;

@@ -47,8 +47,8 @@ struct Simulation<'a> {
     events: Vec<Event>,
 }
 
-// The longest path of each from its start to the end of all. The schedule passes the fences.
-fn paths_of(
+/// The longest path of each from its start to the end of all. The schedule passes the fences.
+pub fn paths_of(
     alloc: Global,
     network: &Network,
     fenced: &Followers,

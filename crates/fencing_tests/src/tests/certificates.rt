@@ -79,8 +79,10 @@ fn an_item_with_two_readers(rt: HostRuntime) -> Result<(), Fail> {
     let alloc = rt.alloc();
     let system = two_readers(alloc)?;
     for row in OF_TWO_READERS {
-        let made = certificate_along(alloc, &system, &[1, 2, 3], row.0, row.1)?;
+        let made = certificate_along(alloc, &system, &[1, 2, 3], row.0, row.1, false)?;
         assert!(rt; is(&made, row));
+        let fewest = certificate_along(alloc, &system, &[1, 2, 3], row.0, row.1, true)?;
+        assert!(rt; is(&fewest, row));
     }
     Ok(())
 }
@@ -142,7 +144,7 @@ fn two_workers_need_no_fence(rt: HostRuntime) -> Result<(), Fail> {
     ];
     let fork = shared_system_of_arrays(alloc, &tasks, &items, &[2, 3, 4, 5, 5, 5])?;
     for row in OF_FORK {
-        let made = certificate_along(alloc, &fork, &[1, 2, 3, 4, 5], row.0, row.1)?;
+        let made = certificate_along(alloc, &fork, &[1, 2, 3, 4, 5], row.0, row.1, false)?;
         assert!(rt; is(&made, row));
     }
     Ok(())
@@ -170,7 +172,7 @@ fn memory_from_two_arcs_away(rt: HostRuntime) -> Result<(), Fail> {
     let items = [item(0, 1, 1), item(0, 2, 1)];
     let line = shared_system_of_arrays(alloc, &tasks, &items, &[2, 3])?;
     for row in OF_LINE {
-        let made = certificate_along(alloc, &line, &[1, 2, 3], row.0, row.1)?;
+        let made = certificate_along(alloc, &line, &[1, 2, 3], row.0, row.1, false)?;
         assert!(rt; is(&made, row));
     }
     Ok(())
@@ -204,7 +206,7 @@ fn memory_from_a_join(rt: HostRuntime) -> Result<(), Fail> {
     let items = [item(10, 1, 2), item(0, 2, 1), item(0, 3, 1)];
     let system = shared_system_of_arrays(alloc, &tasks, &items, &[2, 3, 4, 4])?;
     for row in OF_JOIN {
-        let made = certificate_along(alloc, &system, &[1, 2, 3, 4], row.0, row.1)?;
+        let made = certificate_along(alloc, &system, &[1, 2, 3, 4], row.0, row.1, false)?;
         assert!(rt; is(&made, row));
     }
     Ok(())
@@ -224,10 +226,26 @@ fn the_first_to_end(rt: HostRuntime) -> Result<(), Fail> {
     let alone = shared_system_of_arrays(alloc, &tasks, &[], &[])?;
     let orders: [&[u32]; 2] = [&[1, 2, 3], &[2, 1, 3]];
     for order in orders {
-        let made = certificate_along(alloc, &alone, order, 20, None)?;
+        let made = certificate_along(alloc, &alone, order, 20, None, false)?;
         assert!(rt; are(&made.fences, &[(2, 3)]));
         assert!(rt; &made.amounts[..] == [10].as_slice());
     }
+    Ok(())
+}
+
+// Within 5 tasks 1 and 2, which need 4 each, do not run at once, and task 3, which needs 1, runs beside either. What the bound leaves at first is 1
+// beside task 1, and task 2 takes it with 3 of what 1 gives back, so that 3 waits for 1 too. With the fewest fences 2 takes all 4.
+#[test]
+fn the_fewest_fences(rt: HostRuntime) -> Result<(), Fail> {
+    let alloc = rt.alloc();
+    let tasks = [task(4, 0), task(4, 0), task(1, 0)];
+    let alone = shared_system_of_arrays(alloc, &tasks, &[], &[])?;
+    let made = certificate_along(alloc, &alone, &[1, 2, 3], 5, None, false)?;
+    assert!(rt; are(&made.fences, &[(1, 2), (1, 3)]));
+    assert!(rt; &made.amounts[..] == [3, 1].as_slice());
+    let fewest = certificate_along(alloc, &alone, &[1, 2, 3], 5, None, true)?;
+    assert!(rt; are(&fewest.fences, &[(1, 2)]));
+    assert!(rt; &fewest.amounts[..] == [4].as_slice());
     Ok(())
 }
 
@@ -243,7 +261,7 @@ fn certificates_that_are_refused(rt: HostRuntime) -> Result<(), Fail> {
         (&[1, 2, 3, 4], 16, fault(4, OrderKind::Unknown)),
     ];
     for (order, bound, refusal) in rows {
-        let made = certificate_along(alloc, &system, order, bound, Some(2));
+        let made = certificate_along(alloc, &system, order, bound, Some(2), false);
         assert!(rt; made.err() == Some(refusal));
     }
     Ok(())

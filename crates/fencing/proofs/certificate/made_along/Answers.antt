@@ -7,7 +7,7 @@ use Rattle.fences.specs.Workers.{relieved}
 use Rattle.fencing.specs.Refusal.{IsFencingRefusal}
 use Rattle.fencing.specs.Rooms.{Suits}
 use Rattle.fencing.proofs.Certificates.{by_fencing, certifies, has_room, is_collected}
-use Rattle.fencing.proofs.certificate.certificate_along.Goals as goal
+use Rattle.fencing.proofs.certificate.made_along.Goals as goal
 
 pub returns-in_err-workers-clause-refused : goal.returns-in_err-workers-clause-refused
 returns-in_err-workers-clause-refused c =
