@@ -18,7 +18,7 @@ use Rattle.judging.specs.declared.inputs.Tasks.TheVariants as tasks
 use Rattle.shared_systems.specs.Shared.{SharedTaskSystem}
 use Rattle.judging.specs.declared.inputs.OrderedPattern.{OrderedPattern}
 use Rattle.symbolic.specs.FrontTree.{IsFrontTree}
-use Rattle.requests.specs.Request.{Ordering, natural, min_degree, perm_named, OrderedMatrix, Matrix, TreeInput, tree_named, matrix_named}
+use Rattle.requests.specs.Request.{Ordering, natural, min_degree, perm_named, inverse_named, OrderedMatrix, Matrix, TreeInput, tree_named, matrix_named}
 use Rattle.requests.specs.Request.{Input, tree_input, workflow_named, NamedFile, OrderSource, order_named, plan_named, matrix_file}
 use Rattle.requests.specs.Request.{ordering_files, ordered_matrix_files, matrix_files, tree_input_files, input_files, source_file}
 use Rattle.requests.specs.Request.{TaskSource, input_tasks, graph_tasks, task_files}
@@ -46,6 +46,11 @@ perm_refused : (rows : List (List ℕ)) (name matrix : List ℕ) (texts : List (
 perm_refused rows name matrix [] answer is refused = absurd refused
 perm_refused rows name matrix (t ∷ texts) answer is refused = inl (rows, is, refused)
 
+inverse_refused : (rows : List (List ℕ)) (name matrix : List ℕ) (texts : List (List ℕ)) (answer : Answer) → IsMatrixFile matrix rows
+    → IsRefusedOrder (inverse_named name) rows texts answer → IsFirstRefusal (ordering_files (inverse_named name)) (matrix ∷ []) texts answer
+inverse_refused rows name matrix [] answer is refused = absurd refused
+inverse_refused rows name matrix (t ∷ texts) answer is refused = inl (rows, is, refused)
+
 -- a stop at the order, once the matrix is read
 module _ (told now : List ℕ → Option (List ℕ)) (same : (name : List ℕ) → now name ≡ told name) (before then after : List ℕ → ℕ)
     (le : (name : List ℕ) → before name ≤ then name) (name : List ℕ) (rows : List (List ℕ))
@@ -68,12 +73,21 @@ module _ (told now : List ℕ → Option (List ℕ)) (same : (name : List ℕ) �
       (λ one two answer are more refused.
       alone_told told (matrix_at (perm_named perm) name) (λ texts. IsFirstRefusal (ordering_files (perm_named perm)) texts two answer)
       (λ text is. perm_refused rows perm text two answer (is_matrix text is) refused) one are) e h
+  ordering_stop (inverse_named inverse) e h =
+      stop_after told now same before then after le (matrix_at (inverse_named inverse) name ∷ [])
+      (alone_told told (matrix_at (inverse_named inverse) name)
+      (AreAccepted (matrix_at (inverse_named inverse) name ∷ []) []) (λ text is. ((rows, is_matrix text is, tt), tt)))
+      (ordering_files (inverse_named inverse)) (omega arith) (IsRefusedOrder (inverse_named inverse) rows)
+      (λ one two answer are more refused.
+      alone_told told (matrix_at (inverse_named inverse) name) (λ texts. IsFirstRefusal (ordering_files (inverse_named inverse)) texts two answer)
+      (λ text is. inverse_refused rows inverse text two answer (is_matrix text is) refused) one are) e h
 
 can_be_ordered : (o : Ordering) (rows texts : List (List ℕ)) (order : List ℕ) → IsOrderOf o rows texts order → HasOrdering o (length rows)
 can_be_ordered natural rows texts order is = tt
 can_be_ordered min_degree rows [] order is = is.0
 can_be_ordered min_degree rows (text ∷ texts) order is = absurd is
 can_be_ordered (perm_named name) rows texts order is = tt
+can_be_ordered (inverse_named name) rows texts order is = tt
 
 order_accepted : (o : Ordering) (matrix : List ℕ) (rows : List (List ℕ)) (texts : List (List ℕ)) (order : List ℕ)
     → IsMatrixFile matrix rows → IsOrderOf o rows texts order
@@ -83,6 +97,9 @@ order_accepted min_degree matrix rows texts order is is_order = tt
 order_accepted (perm_named name) matrix rows [] order is is_order = absurd is_order
 order_accepted (perm_named name) matrix rows (text ∷ []) order is is_order = ((rows, order, is, is_order), tt)
 order_accepted (perm_named name) matrix rows (text ∷ more ∷ texts) order is is_order = absurd is_order
+order_accepted (inverse_named name) matrix rows [] order is is_order = absurd is_order
+order_accepted (inverse_named name) matrix rows (text ∷ []) order is is_order = ((rows, order, is, is_order), tt)
+order_accepted (inverse_named name) matrix rows (text ∷ more ∷ texts) order is is_order = absurd is_order
 
 pub ordered_accepted : (m : OrderedMatrix) (texts rows : List (List ℕ)) (order : List ℕ) → IsOrderedMatrix m.ordering texts rows order
     → AreAccepted (ordered_matrix_files m) [] texts

@@ -21,6 +21,7 @@ use Rattle.workflow_files.specs.WorkflowFile.{ReadsWorkflow, RefusesWorkflow}
 use Rattle.matrix_files.specs.OrderFile.{ReadsOrder, RefusesOrder}
 use Rattle.ordering.specs.MinimumDegree.{IsMinimumDegreeOrder}
 use Rattle.matrix_files.specs.PermFile.{ReadsPerm, RefusesPerm}
+use Rattle.matrix_files.specs.InverseFile.{ReadsInverse, RefusesInverse}
 use Rattle.plans.specs.Plan.{PlanValue}
 use Rattle.plan_files.specs.PlanFile.{ReadsPlan, RefusesPlan}
 use Rattle.bounded_plans.specs.BoundedPlan.{BoundedPlanValue}
@@ -38,10 +39,10 @@ use Rattle.shared_graph_files.specs.declared.either.EitherGraph.{EitherGraph}
 use Rattle.shared_graph_files.specs.EitherVersion.{StatesEither, ReadsSharedGraph, RefusesSharedGraph}
 use Rattle.shared_graph_files.specs.SharedGraphFile.{ReadsItems}
 use Rattle.judging.specs.declared.status.Status.{Status}
-use Rattle.requests.specs.Request.{Ordering, natural, min_degree, perm_named, Matrix, TreeInput, tree_named, matrix_named, Input, tree_input}
+use Rattle.requests.specs.Request.{Ordering, natural, min_degree, perm_named, inverse_named, Matrix, TreeInput, tree_named, matrix_named, Input, tree_input}
 use Rattle.requests.specs.Request.{TaskSource, input_tasks, graph_tasks, shared_graph_file}
 use Rattle.requests.specs.Request.{workflow_named, OrderSource, order_named, plan_named, FileRole, tree_file, workflow_file}
-use Rattle.requests.specs.Request.{matrix_file, perm_file, order_file, plan_file, bounded_plan_file, priority_file, plan_priority_file}
+use Rattle.requests.specs.Request.{matrix_file, perm_file, inverse_file, order_file, plan_file, bounded_plan_file, priority_file, plan_priority_file}
 use Rattle.requests.specs.Request.{NamedFile, fence_file}
 use Rattle.workflow_files.specs.Kinds.{word_of as workflow_word}
 use Rattle.matrix_files.specs.OrderKinds.{perm_word, order_file_word}
@@ -120,6 +121,10 @@ IsMatrixFile text rows = IsWithinBytes text × ReadsPattern text rows
 abbrev pub IsPermFile : ℕ → List ℕ → List ℕ → Type 0
 IsPermFile n text order = IsWithinBytes text × ReadsPerm n text order
 
+-- one that is told by its inverse
+abbrev pub IsInverseFile : ℕ → List ℕ → List ℕ → Type 0
+IsInverseFile n text order = IsWithinBytes text × ReadsInverse n text order
+
 abbrev pub IsOrderFile : List ℕ → List ℕ → Type 0
 IsOrderFile text numbers = IsWithinBytes text × ReadsOrder text numbers
 
@@ -139,8 +144,9 @@ abbrev pub HasOrdering : Ordering → ℕ → Type 0
 HasOrdering natural n = Unit {0}
 HasOrdering min_degree n = n ≤ most_mindeg
 HasOrdering (perm_named name) n = Unit {0}
+HasOrdering (inverse_named name) n = Unit {0}
 
--- the order in which the rows of a matrix are eliminated: 1, 2, .., n, by minimum degree, or of its permutation file
+-- the order in which the rows of a matrix are eliminated: 1, 2, .., n, by minimum degree, or of its permutation file, or that of the inverse
 abbrev pub IsOrderOf : Ordering → List (List ℕ) → List (List ℕ) → List ℕ → Type 0
 IsOrderOf natural rows [] order = order ≡ range_with_len 1 (length rows)
 IsOrderOf natural rows (text ∷ texts) order = ⊥
@@ -149,6 +155,9 @@ IsOrderOf min_degree rows (text ∷ texts) order = ⊥
 IsOrderOf (perm_named name) rows [] order = ⊥
 IsOrderOf (perm_named name) rows (text ∷ []) order = IsPermFile (length rows) text order
 IsOrderOf (perm_named name) rows (text ∷ more ∷ texts) order = ⊥
+IsOrderOf (inverse_named name) rows [] order = ⊥
+IsOrderOf (inverse_named name) rows (text ∷ []) order = IsInverseFile (length rows) text order
+IsOrderOf (inverse_named name) rows (text ∷ more ∷ texts) order = ⊥
 
 -- the rows of a matrix, and the order in which they are eliminated, over the texts of its files
 abbrev pub IsOrderedMatrix : Ordering → List (List ℕ) → List (List ℕ) → List ℕ → Type 0
@@ -205,6 +214,7 @@ IsTooLarge min_degree text answer =
     (rows : List (List ℕ)) × IsMatrixFile text rows × (most_mindeg < length rows)
     × (answer ≡ limit_refused (codes "matrix") (limit_word limits.Mindeg))
 IsTooLarge (perm_named name) text answer = ⊥
+IsTooLarge (inverse_named name) text answer = ⊥
 
 -- a permutation file stands after the matrix file whose vertices it orders
 abbrev pub IsRefusedPerm : List (List ℕ) → List ℕ → Answer → Type 0
@@ -216,6 +226,17 @@ abbrev pub IsAcceptedPerm : List (List ℕ) → List ℕ → Type 0
 IsAcceptedPerm [] text = ⊥
 IsAcceptedPerm (matrix ∷ earlier) text =
     (rows : List (List ℕ)) × (order : List ℕ) × IsMatrixFile matrix rows × IsPermFile (length rows) text order
+
+-- and so does a file of its inverse
+abbrev pub IsRefusedInverse : List (List ℕ) → List ℕ → Answer → Type 0
+IsRefusedInverse [] text answer = ⊥
+IsRefusedInverse (matrix ∷ earlier) text answer =
+    (rows : List (List ℕ)) × IsMatrixFile matrix rows × IsRefusedFile (codes "iperm") perm_word (RefusesInverse (length rows) text) text answer
+
+abbrev pub IsAcceptedInverse : List (List ℕ) → List ℕ → Type 0
+IsAcceptedInverse [] text = ⊥
+IsAcceptedInverse (matrix ∷ earlier) text =
+    (rows : List (List ℕ)) × (order : List ℕ) × IsMatrixFile matrix rows × IsInverseFile (length rows) text order
 
 -- a priority file stands after the files of the tasks that it ranks, and that of the order
 abbrev pub IsRefusedPriority : TaskSource → List (List ℕ) → List ℕ → Answer → Type 0
@@ -249,6 +270,7 @@ IsRefusedInRole shared_graph_file earlier text answer =
 IsRefusedInRole (matrix_file ordering) earlier text answer =
     IsRefusedFile (codes "matrix") matrix_word (RefusesPattern text) text answer ⊎ IsTooLarge ordering text answer
 IsRefusedInRole perm_file earlier text answer = IsRefusedPerm earlier text answer
+IsRefusedInRole inverse_file earlier text answer = IsRefusedInverse earlier text answer
 IsRefusedInRole order_file earlier text answer = IsRefusedFile (codes "order") order_file_word (RefusesOrder text) text answer
 IsRefusedInRole plan_file earlier text answer = IsRefusedFile (codes "plan") plan_word (RefusesPlan text) text answer
 IsRefusedInRole bounded_plan_file earlier text answer = IsRefusedFile (codes "plan") plan_word (RefusesBoundedPlan text) text answer
@@ -263,6 +285,7 @@ HasValue workflow_file earlier text = (positions : List Position) × IsWorkflowF
 HasValue shared_graph_file earlier text = (system : SharedTaskSystem) × IsSharedGraphFile text system
 HasValue (matrix_file ordering) earlier text = (rows : List (List ℕ)) × IsMatrixFile text rows × HasOrdering ordering (length rows)
 HasValue perm_file earlier text = IsAcceptedPerm earlier text
+HasValue inverse_file earlier text = IsAcceptedInverse earlier text
 HasValue order_file earlier text = (numbers : List ℕ) × IsOrderFile text numbers
 HasValue plan_file earlier text = (plan : PlanValue) × IsPlanFile text plan
 HasValue bounded_plan_file earlier text = (plan : BoundedPlanValue) × IsBoundedPlanFile text plan

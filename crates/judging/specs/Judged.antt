@@ -10,6 +10,7 @@ use Rattle.limits.specs.Limits.{most_mindeg, word_of as limit_word}
 use Rattle.limits.specs.declared.name.LimitName.TheVariants as limits
 use Rattle.permutations.specs.Perm.{IsPerm}
 use Rattle.matrix_files.specs.PermFile.{RefusesPerm}
+use Rattle.matrix_files.specs.InverseFile.{RefusesInverse}
 use Rattle.sp_terms.specs.Postfix.{Denotes}
 use Rattle.sp_terms.specs.Values.{term_of}
 use Rattle.judging.specs.Files.{limit_refused, Answer, IsRefusedInRole, IsRefusedAs, IsRefusedFile, IsOrderFrom, IsOrderedMatrix}
@@ -19,7 +20,7 @@ use Rattle.judging.specs.Numbered.{IsNumberedTerm}
 use Rattle.judging.specs.Told.{AreTold, HasFailed}
 use Rattle.judging.specs.Pages.{answer_of}
 use Rattle.matrix_files.specs.OrderKinds.{perm_word}
-use Rattle.requests.specs.Request.{Ordering, natural, min_degree, perm_named, Input, tree_input, workflow_named, NamedFile, OrderSource}
+use Rattle.requests.specs.Request.{Ordering, natural, min_degree, perm_named, inverse_named, Input, tree_input, workflow_named, NamedFile, OrderSource}
 use Rattle.requests.specs.Request.{source_file, TaskSource, input_tasks, graph_tasks, task_files}
 use Rattle.shared_systems.specs.Shared.{SharedTaskSystem}
 use Rattle.shared_systems.specs.OneReader.{shared_of}
@@ -101,6 +102,9 @@ IsRefusedOrder min_degree rows texts answer =
 IsRefusedOrder (perm_named name) rows [] answer = ⊥
 IsRefusedOrder (perm_named name) rows (text ∷ texts) answer =
     IsRefusedFile (codes "perm") perm_word (RefusesPerm (length rows) text) text answer
+IsRefusedOrder (inverse_named name) rows [] answer = ⊥
+IsRefusedOrder (inverse_named name) rows (text ∷ texts) answer =
+    IsRefusedFile (codes "iperm") perm_word (RefusesInverse (length rows) text) text answer
 
 -- the pattern of a matrix, and the order in which its rows are eliminated
 abbrev pub IsMatrixRead : Ordering → List (List ℕ) → OrderedPattern → Type 0

@@ -7,6 +7,7 @@ ghost use Rattle.mp_text.specs.declared.refusals.Refusal.{Refusal};
 ghost use Rattle.matrix_files.specs.MatrixFile.{ReadsPattern, RefusesPattern};
 ghost use Rattle.matrix_files.specs.OrderFile.{ReadsOrder, RefusesOrder};
 ghost use Rattle.matrix_files.specs.PermFile.{ReadsPerm, RefusesPerm};
+ghost use Rattle.matrix_files.specs.InverseFile.{ReadsInverse, RefusesInverse};
 ghost use Rattle.plan_files.specs.PlanFile.{ReadsPlan, RefusesPlan};
 ghost use Rattle.bounded_plan_files.specs.BoundedPlanFile.{ReadsBoundedPlan, RefusesBoundedPlan};
 ghost use Rattle.fence_files.specs.FenceFile.{ReadsFences, RefusesFences};
@@ -24,7 +25,9 @@ use fence_files::{FenceKind, read_fences};
 use fences::FenceCertificate;
 use graph_files::GraphKind;
 use limits::LimitName;
-use matrix_files::{MatrixKind, OrderFileKind, PermKind, read_order, read_pattern, read_perm};
+use matrix_files::{
+    MatrixKind, OrderFileKind, PermKind, read_inverse, read_order, read_pattern, read_perm,
+};
 use mp_outside::{Files, ReadRefusal, read_whole};
 use mp_text::{Kind, Refusal};
 use patterns::Pattern;
@@ -272,6 +275,32 @@ impl FileKind for PermFile {
 
     fn read(&self, alloc: Global, text: Vec<u8>) -> Result<Perm, Refusal<PermKind>> {
         read_perm(alloc, &text, self.n)
+    }
+}
+
+/// A file of the inverse of an order in which `n` vertices are eliminated.
+#[derive(Clone, Copy, Debug)]
+pub struct InverseFile {
+    pub n: u32,
+}
+
+impl FileKind for InverseFile {
+    type Value = Perm;
+
+    type Kind = PermKind;
+
+    ghost file_word = { λ _. codes "iperm" };
+
+    ghost reads = { λ file. ReadsInverse file.n };
+
+    ghost refuses = { λ file. RefusesInverse file.n };
+
+    fn word(&self) -> &'static str {
+        "iperm"
+    }
+
+    fn read(&self, alloc: Global, text: Vec<u8>) -> Result<Perm, Refusal<PermKind>> {
+        read_inverse(alloc, &text, self.n)
     }
 }
 

@@ -11,7 +11,7 @@ ghost use Rattle.plans.specs.Plan.{IsPlan};
 ghost use Rattle.judging.specs.Files.{IsOrderOf, IsMatrixTree, IsTreeOf, IsFirstRefusal};
 ghost use Rattle.judging.specs.Priorities.{priority_or};
 ghost use Rattle.judging.specs.Judged.{AreJudged, IsRefusingPage, IsRefusedOrder, IsMatrixRead, IsProblemOf, IsOrderRead};
-ghost use Rattle.judging.specs.Judged.{AreTasksOf, AreOrderedOf, system_of_tasks};
+ghost use Rattle.judging.specs.Judged.{AreTasksOf, AreOrderedOf, IsBeforeOrder, system_of_tasks};
 ghost use Rattle.shared_systems.specs.SharedMemory.{shared_peak_of};
 ghost use Rattle.shared_systems.specs.SharedTraversal.{IsSharedTraversal, IsSharedOrderRefusal};
 ghost use Rattle.judging.specs.Judged.{IsRefusedSource, IsPriorityOf, IsRefusedRanking, IsRanking, order_tasks, own_priority};
@@ -20,15 +20,15 @@ ghost use Rattle.requests.specs.Request.{input_files, task_files, source_file, p
 ghost use Rattle.requests.specs.RequestViews.{ordering_view, matrix_view, ordered_matrix_view, tree_input_view, input_view, tasks_view, source_view};
 
 use crate::files::{
-    MatrixFile, OrderFile, PermFile, PlanFile, Ranked, SharedGraphFile, TreeFile, WorkflowFile,
-    judge,
+    InverseFile, MatrixFile, OrderFile, PermFile, PlanFile, Ranked, SharedGraphFile, TreeFile,
+    WorkflowFile, judge,
 };
 use crate::page::limit_page;
 use crate::stop::Stop;
 use activation::{Core, CoreRefusal};
 use least_peak::Problem;
 use limits::LimitName;
-use matrix_files::laws::read_is_perm;
+use matrix_files::laws::{inverse_is_perm, read_is_perm};
 use mp_outside::Files;
 use mp_system::ReplayRefusal;
 use ordering::{MindegRefusal, min_degree};
@@ -72,6 +72,7 @@ fn judge_ordering<F: Files>(
     ensures later { (other : List ℕ) → F.faults_of files.old other ≤ F.faults_of files.new other }
 {
     read_is_perm();
+    inverse_is_perm();
     let n = pattern.rows();
     match ordering {
         Ordering::Natural => Ok(identity(alloc, n)?),
@@ -80,6 +81,7 @@ fn judge_ordering<F: Files>(
             let ranked = Ranked::Vertices;
             judge(alloc, files, name, &PermFile { ranked, n })
         }
+        Ordering::Inverse(name) => judge(alloc, files, name, &InverseFile { n }),
     }
 }
 
@@ -300,8 +302,8 @@ fn priority_of(plan: &Plan) -> &[u32]
     }
 }
 
-// The order that a source gives.
-fn judge_order<F: Files>(
+/// The order that a source gives.
+pub fn judge_order<F: Files>(
     alloc: Global,
     files: &mut F,
     source: OrderSource<'_>,
@@ -348,6 +350,34 @@ pub fn judge_ordered_tasks<F: Files>(
     let tasks = judge_tasks(alloc, files, tasks)?;
     let order = judge_order(alloc, files, source)?;
     Ok(OrderedTasks { tasks, order })
+}
+
+/// A matrix with the order in which its rows are eliminated, and the order of a source.
+#[derive(Drop)]
+pub struct PatternWithOrder {
+    pub matrix: OrderedPattern,
+    pub order: Order,
+}
+
+/// The pattern of a matrix with the order in which its rows are eliminated, and after it the order of a source.
+pub fn judge_ordered_pattern<F: Files>(
+    alloc: Global,
+    files: &mut F,
+    matrix: OrderedMatrix<'_>,
+    source: OrderSource<'_>,
+) -> Result<PatternWithOrder, Stop>
+    ensures judged { AreJudged (F.bytes_of files.old) (F.faults_of files.old) (F.faults_of files.new)
+        (ordered_matrix_files (ordered_matrix_view matrix.entry) ++ source_file (source_view source.entry) ∷ [])
+        (λ texts read. IsBeforeOrder (ordered_matrix_files (ordered_matrix_view matrix.entry))
+        (IsMatrixRead (ordering_view matrix.entry.ordering)) (source_view source.entry) texts read.matrix read.order)
+        (IsFirstRefusal (ordered_matrix_files (ordered_matrix_view matrix.entry) ++ source_file (source_view source.entry) ∷ []) []) result }
+    ensures len { IfOk result (λ read. length read.matrix.order ≡ length read.matrix.pattern) }
+    ensures same { (other : List ℕ) → F.bytes_of files.new other ≡ F.bytes_of files.old other }
+    ensures later { (other : List ℕ) → F.faults_of files.old other ≤ F.faults_of files.new other }
+{
+    let matrix = judge_pattern(alloc, files, matrix)?;
+    let order = judge_order(alloc, files, source)?;
+    Ok(PatternWithOrder { matrix, order })
 }
 
 // ---- the priority

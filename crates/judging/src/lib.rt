@@ -11,12 +11,13 @@ mod status;
 mod stop;
 
 pub use files::{
-    BoundedPlanFile, EitherGraphFile, FencesFile, FileKind, MatrixFile, OrderFile, PermFile,
-    PlanFile, Ranked, SharedGraphFile, TreeFile, WorkflowFile, judge,
+    BoundedPlanFile, EitherGraphFile, FencesFile, FileKind, InverseFile, MatrixFile, OrderFile,
+    PermFile, PlanFile, Ranked, SharedGraphFile, TreeFile, WorkflowFile, judge,
 };
 pub use inputs::{
-    Order, OrderedPattern, OrderedTasks, Priority, Tasks, judge_input, judge_matrix,
-    judge_ordered_tasks, judge_pattern, judge_priority, judge_tasks, judge_tree,
+    Order, OrderedPattern, OrderedTasks, PatternWithOrder, Priority, Tasks, judge_input,
+    judge_matrix, judge_order, judge_ordered_pattern, judge_ordered_tasks, judge_pattern,
+    judge_priority, judge_tasks, judge_tree,
 };
 pub use numbered::{NumberedTerm, judge_numbered};
 pub use page::{

@@ -1,4 +1,5 @@
 pub mod BoundLemmas
+pub mod CarryLemmas
 pub mod GraphPlanLemmas
 pub mod DemoLemmas
 pub mod FenceLemmas
@@ -20,3 +21,4 @@ pub mod StairPages
 pub mod StairsLemmas
 pub mod UpgradeLemmas
 pub mod SharedTasks
+pub mod ColumnLemmas

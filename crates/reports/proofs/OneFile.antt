@@ -9,6 +9,7 @@ use Rattle.matrix_files.specs.MatrixFile.{ReadsPattern, RefusesPattern}
 use Rattle.matrix_files.specs.OrderKinds.{perm_word, order_file_word}
 use Rattle.matrix_files.specs.OrderFile.{ReadsOrder, RefusesOrder}
 use Rattle.matrix_files.specs.PermFile.{ReadsPerm, RefusesPerm}
+use Rattle.matrix_files.specs.InverseFile.{ReadsInverse, RefusesInverse}
 use Rattle.plan_files.specs.Kinds.{word_of as plan_word}
 use Rattle.plans.specs.Plan.{PlanValue}
 use Rattle.plan_files.specs.PlanFile.{ReadsPlan, RefusesPlan}
@@ -23,9 +24,9 @@ use Rattle.tree_files.specs.Kinds.{word_of as tree_word}
 use Rattle.tree_files.specs.TreeFile.{ReadsTree, RefusesTree}
 use Rattle.judging.specs.Files.{Answer, IsMatrixFile, HasOrdering, IsTooLarge, IsWithinBytes, IsRefusedAs}
 use Rattle.judging.specs.Files.{IsRefusedFile, HasValue, IsRefusedInRole, IsTaskSystemOf, IsPlanFile}
-use Rattle.requests.specs.Request.{Ordering, natural, min_degree, perm_named, TaskSource, FileRole, tree_file, workflow_file}
+use Rattle.requests.specs.Request.{Ordering, natural, min_degree, perm_named, inverse_named, TaskSource, FileRole, tree_file, workflow_file}
 use Rattle.requests.specs.Request.{shared_graph_file}
-use Rattle.requests.specs.Request.{matrix_file, perm_file, order_file, plan_file, bounded_plan_file, fence_file, priority_file, plan_priority_file}
+use Rattle.requests.specs.Request.{matrix_file, perm_file, inverse_file, order_file, plan_file, bounded_plan_file, fence_file, priority_file, plan_priority_file}
 use Rattle.reports.proofs.OneInput.{TaskSystems, same_task_texts}
 
 -- what is known of a format
@@ -62,6 +63,7 @@ pub record Formats : Type 0 where
   pub shared_graphs : IsFormat ReadsSharedGraph RefusesSharedGraph
   pub matrices : IsFormat ReadsPattern RefusesPattern
   pub perms : (n : ℕ) → IsFormat (ReadsPerm n) (RefusesPerm n)
+  pub inverses : (n : ℕ) → IsFormat (ReadsInverse n) (RefusesInverse n)
   pub orders : IsFormat ReadsOrder RefusesOrder
   pub plans : IsFormat ReadsPlan RefusesPlan
   pub bounded_plans : IsFormat ReadsBoundedPlan RefusesBoundedPlan
@@ -81,6 +83,9 @@ module _ (f : Formats) where
   abbrev perm_refused : List ℕ → ℕ → List ℕ → Answer → Type 0
   perm_refused file n text answer = IsRefusedFile file perm_word (RefusesPerm n text) text answer
 
+  abbrev inverse_refused : ℕ → List ℕ → Answer → Type 0
+  inverse_refused n text answer = IsRefusedFile (codes "iperm") perm_word (RefusesInverse n text) text answer
+
   -- and a plan file before it as many tasks of its order
   same_ranks : (text : List ℕ) (a b : PlanValue) → IsPlanFile text a → IsPlanFile text b → length a.order ≡ length b.order
   same_ranks text a b is is' = ap (λ (p : PlanValue). length p.order) (f.one_plan text a b is.1 is'.1)
@@ -91,6 +96,7 @@ module _ (f : Formats) where
   not_too_large min_degree text answer rows is fits (other, is_other, more, line) =
       omega (arith, ap length (f.patterns text rows other is.1 is_other.1), fits, more)
   not_too_large (perm_named name) text answer rows is fits large = large
+  not_too_large (inverse_named name) text answer rows is fits large = large
 
   -- a matrix that is too large is one that is read
   read_before : (o : Ordering) (text : List ℕ) (one two : Answer)
@@ -99,11 +105,13 @@ module _ (f : Formats) where
   read_before min_degree text one two refused (rows, is, more, line) =
       not_refused (codes "matrix") matrix_word ReadsPattern RefusesPattern f.matrices text one rows is refused
   read_before (perm_named name) text one two refused large = large
+  read_before (inverse_named name) text one two refused large = large
 
   large_once : (o : Ordering) (text : List ℕ) (one two : Answer) → IsTooLarge o text one → IsTooLarge o text two → one ≡ two
   large_once natural text one two large other = absurd large
   large_once min_degree text one two (rows, is, more, line) (rows', is', more', line') = line ∙ sym line'
   large_once (perm_named name) text one two large other = absurd large
+  large_once (inverse_named name) text one two large other = absurd large
 
   pub not_both : (role : FileRole) (earlier : List (List ℕ)) (text : List ℕ) (answer : Answer)
       → HasValue role earlier text → IsRefusedInRole role earlier text answer → ⊥
@@ -122,6 +130,11 @@ module _ (f : Formats) where
       (RefusesPerm (length rows)) (f.perms (length rows)) text answer order is
       (subst (λ (n : ℕ). perm_refused (codes "perm") n text answer)
       (ap length (f.patterns matrix rows' rows matrix_is'.1 matrix_is.1)) refused)
+  not_both inverse_file [] text answer is refused = absurd is
+  not_both inverse_file (matrix ∷ earlier) text answer (rows, order, matrix_is, is) (rows', matrix_is', refused) =
+      not_refused (codes "iperm") perm_word (ReadsInverse (length rows))
+      (RefusesInverse (length rows)) (f.inverses (length rows)) text answer order is
+      (subst (λ (n : ℕ). inverse_refused n text answer) (ap length (f.patterns matrix rows' rows matrix_is'.1 matrix_is.1)) refused)
   not_both order_file earlier text answer (numbers, is) refused =
       not_refused (codes "order") order_file_word ReadsOrder RefusesOrder f.orders text answer numbers is refused
   not_both plan_file earlier text answer (plan, is) refused =
@@ -159,6 +172,11 @@ module _ (f : Formats) where
   one_refusal perm_file (matrix ∷ earlier) text one two (rows, matrix_is, is) (rows', matrix_is', other) =
       refused_once (codes "perm") perm_word (ReadsPerm (length rows)) (RefusesPerm (length rows)) (f.perms (length rows)) text one two is
       (subst (λ (n : ℕ). perm_refused (codes "perm") n text two) (ap length (f.patterns matrix rows' rows matrix_is'.1 matrix_is.1)) other)
+  one_refusal inverse_file [] text one two is other = absurd is
+  one_refusal inverse_file (matrix ∷ earlier) text one two (rows, matrix_is, is) (rows', matrix_is', other) =
+      refused_once (codes "iperm") perm_word (ReadsInverse (length rows))
+      (RefusesInverse (length rows)) (f.inverses (length rows)) text one two is
+      (subst (λ (n : ℕ). inverse_refused n text two) (ap length (f.patterns matrix rows' rows matrix_is'.1 matrix_is.1)) other)
   one_refusal order_file earlier text one two is other =
       refused_once (codes "order") order_file_word ReadsOrder RefusesOrder f.orders text one two is other
   one_refusal plan_file earlier text one two is other =

@@ -8,6 +8,7 @@ use Rattle.mp_system.specs.System.{TaskSystem, IsSystem}
 use Rattle.ordering.specs.MinimumDegree.{IsMinimumDegreeOrder}
 use Rattle.permutations.specs.Perm.{IsPerm}
 use Rattle.matrix_files.specs.PermFile.{ReadsPerm}
+use Rattle.matrix_files.specs.InverseFile.{ReadsInverse}
 use Rattle.sp_terms.specs.declared.position.Position.{Position}
 use Rattle.sp_terms.specs.Postfix.{Denotes}
 use Rattle.sp_terms.specs.SystemOfTerm.{system_of_term}
@@ -32,7 +33,7 @@ use Rattle.judging.specs.Files.{IsOrderOf, IsMatrixTree, IsTreeOf, IsSystemOf, I
 use Rattle.judging.specs.Judged.{AreWithin}
 use Rattle.judging.specs.Numbered.{IsNumberedTerm, node_positions}
 use Rattle.judging.proofs.NumberLemmas.{forest_within, range_within}
-use Rattle.requests.specs.Request.{Ordering, natural, min_degree, perm_named, Matrix, TreeInput, tree_named, matrix_named, Input}
+use Rattle.requests.specs.Request.{Ordering, natural, min_degree, perm_named, inverse_named, Matrix, TreeInput, tree_named, matrix_named, Input}
 use Rattle.requests.specs.Request.{tree_input, workflow_named, ordering_files, matrix_files, tree_input_files, input_files}
 use Rattle.requests.specs.Request.{TaskSource, input_tasks, graph_tasks, task_files}
 
@@ -66,9 +67,11 @@ pub record Parts : Type 0 where
       → IsForestOf nodes f → IsPermutation (all_numbers f) (range_with_len 1 (length nodes))
   pub patterns : OneValue ReadsPattern
   pub perms : (n : ℕ) → OneValue (ReadsPerm n)
+  pub inverses : (n : ℕ) → OneValue (ReadsInverse n)
   pub min_degrees : (joined : ℕ → ℕ → Bool) (n : ℕ) (one two : List ℕ)
       → IsMinimumDegreeOrder joined n one → IsMinimumDegreeOrder joined n two → one ≡ two
   pub perm : (n : ℕ) (bytes order : List ℕ) → ReadsPerm n bytes order → IsPerm n order
+  pub inverse : (n : ℕ) (bytes order : List ℕ) → ReadsInverse n bytes order → IsPerm n order
   pub fronts : (options : FrontOptions) (rows : List (List ℕ)) (order : List ℕ) (one two : List Node)
       → IsPattern rows → length order ≡ length rows
       → IsFrontTree options rows order one → IsFrontTree options rows order two → one ≡ two
@@ -93,6 +96,10 @@ module _ (p : Parts) where
   one_order (perm_named name) rows (t ∷ []) a b is other =
       (p.perms (length rows) t a b is.1 other.1, (p.perm (length rows) t a is.1).len, refl)
   one_order (perm_named name) rows (t ∷ u ∷ ts) a b is other = absurd is
+  one_order (inverse_named name) rows [] a b is other = absurd is
+  one_order (inverse_named name) rows (t ∷ []) a b is other =
+      (p.inverses (length rows) t a b is.1 other.1, (p.inverse (length rows) t a is.1).len, refl)
+  one_order (inverse_named name) rows (t ∷ u ∷ ts) a b is other = absurd is
 
   pub one_matrix : (o : Ordering) (texts rows other : List (List ℕ)) (order same : List ℕ) → IsOrderedMatrix o texts rows order
       → IsOrderedMatrix o texts other same → (rows ≡ other) × (order ≡ same) × IsPattern rows × (length order ≡ length rows)

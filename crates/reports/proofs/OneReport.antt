@@ -29,12 +29,14 @@ use Rattle.reports.specs.Reports.{IsReport, IsDecided}
 use Rattle.reports.specs.Check.{IsCheckOf, verdict_answer}
 use Rattle.judging.specs.Files.{Answer, AreAccepted, HasValue, IsRefusedInRole, IsFirstRefusal, IsOrderFrom}
 use Rattle.judging.specs.Files.{IsTreeOf, IsSystemOf, IsTaskSystemOf, IsSystemWithTerm, order_refused}
+use Rattle.reports.specs.Columns.{IsColumnsOf}
 use Rattle.reports.specs.Demo.{IsDemoOf}
 use Rattle.reports.specs.Fronts.{IsFrontsOf}
 use Rattle.reports.specs.Post.{IsPost, post_answer}
 use Rattle.reports.specs.Replay.{IsReplayAnswer, IsReplayOf}
 use Rattle.requests.specs.Request.{Request, replay, tree, post, check, planning, simulate, demo, upgrade, spill, segments}
 use Rattle.requests.specs.Request.{check_fences, check_graph, plan_graph, bounding, fencing, planned_fencing, standing, reduce, Upgrade, IsInRange}
+use Rattle.requests.specs.Request.{columns, carrying, ColumnsFormat, Matrix}
 use Rattle.requests.specs.Request.{IsMakeable, TreeInput, matrix_named, Input, OrderSource}
 use Rattle.requests.specs.Request.{TaskSource, input_tasks, graph_tasks, task_files}
 use Rattle.requests.specs.Request.{order_named, plan_named, Simulation, FileRole, NamedFile, tree_input_files, input_files}
@@ -49,6 +51,8 @@ use Rattle.requests.specs.declared.commands.demo.Demo.{Demo}
 use Rattle.judging.proofs.InputLemmas.{ordered_accepted, matrix_accepted, tree_accepted, input_accepted, source_accepted, work_has_system}
 use Rattle.judging.proofs.InputLemmas.{system_accepted}
 use Rattle.reports.proofs.BoundLemmas.{given_accepted}
+use Rattle.reports.proofs.CarryLemmas.{carry_accepted}
+use Rattle.reports.proofs.ColumnLemmas.{columns_accepted}
 use Rattle.reports.proofs.OneInput.{IsRunnable, Systems, TaskSystems, same_texts, same_task_texts}
 use Rattle.reports.proofs.UpgradeLemmas.{upgrade_accepted, one_upgrade_answer}
 use Rattle.reports.proofs.StairsLemmas.{one_segments, numbered_accepted}
@@ -79,6 +83,8 @@ pub record Reports : Type 0 where
   pub fronts : (m : OrderedMatrix) (bound workers : ℕ) (texts : List (List ℕ)) (a b : Answer)
       → 1 ≤ workers → IsFrontsOf m bound workers texts a
       → IsFrontsOf m bound workers texts b → a ≡ b
+  pub columns : (m : Matrix) (source : Option OrderSource) (format : ColumnsFormat) (texts : List (List ℕ)) (a b : Answer)
+      → IsColumnsOf m source format texts a → IsColumnsOf m source format texts b → a ≡ b
   pub upgrades : (u : Upgrade) (texts : List (List ℕ)) (a b : Versioned) → IsUpgradedFrom u texts a → IsUpgradedFrom u texts b → a ≡ b
   pub numbered : (input : Input) (texts : List (List ℕ)) (ps qs : List Position) (ks ls : List ℕ)
       → IsNumberedTerm input texts ps ks → IsNumberedTerm input texts qs ls → (ps ≡ qs) × (ks ≡ ls) × AreWithin (length ps) ks
@@ -210,6 +216,7 @@ module _ (r : Reports) where
   one_report (replay tasks source) texts a b workers decided is is' = replayed_once tasks source texts a b is is'
   one_report (tree m) texts a b workers decided (nodes, is, e) (nodes', is', e') =
       e ∙ ap tree_answer (r.trees (matrix_named m) texts nodes nodes' is is').0 ∙ sym e'
+  one_report (columns m source format) texts a b within decided is is' = r.columns m source format texts a b is is'
   one_report (post input) texts a b workers decided (nodes, is, best) (nodes', is', best') =
       let one = r.trees input texts nodes nodes' is is' in
       posted_once nodes a b one.1 best (subst (λ (ns : List Node). IsPost ns b) (sym one.0) best')
@@ -228,6 +235,7 @@ module _ (r : Reports) where
   one_report (segments input) texts a b within decided is is' = one_segments r.numbered r.stairs input texts a b is is'
   one_report (fronts m bound workers) texts a b within decided is is' = r.fronts m bound workers texts a b within.0 is is'
   one_report (reduce name) texts a b within decided is is' = absurd decided
+  one_report (carrying graph source) texts a b within decided is is' = absurd decided
   one_report (bounding graph order effort) texts a b within decided is is' = absurd decided
 
   -- ---- files that have values
@@ -279,6 +287,7 @@ module _ (r : Reports) where
       with_tasks tasks (source_file source ∷ []) texts mine (text ∷ []) s split is_system
       (source_accepted source mine text order is_order, tt)
   report_accepted (tree m) texts a (nodes, is, e) = matrix_accepted m texts nodes is
+  report_accepted (columns m source format) texts a is = columns_accepted m source format texts a is
   report_accepted (post input) texts a (nodes, is, best) = tree_accepted input texts nodes is
   report_accepted (check input name workers) texts a (mine, text, s, ps, plan, split, with_term, is_plan, is) =
       with_input input (source_file (plan_named name) ∷ []) texts mine (text ∷ []) s split
@@ -315,6 +324,7 @@ module _ (r : Reports) where
   report_accepted (reduce name) texts a (text, stated, e, is, x) =
       subst (AreAccepted (files_of (reduce name)) []) (sym e)
       ((system_of_either stated, (is.0, stated_is_read (is_second text) text stated is.1)), tt)
+  report_accepted (carrying graph source) texts a is = carry_accepted graph source texts a is
   report_accepted (plan_graph graph name effort format) texts a (text, rest, system, order, e, is, given, x) =
       subst (AreAccepted (files_of (plan_graph graph name effort format)) []) (sym e)
       ((system, is), given_accepted name (text ∷ []) rest order given)

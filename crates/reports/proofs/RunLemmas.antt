@@ -6,6 +6,7 @@ use Rattle.mp_text.specs.declared.refusals.Refusal.{Refusal}
 use Rattle.mp_text.specs.declared.refusals.Refusal.TheVariants as refusals
 use Rattle.matrix_files.specs.OrderFile.{RefusesOrder}
 use Rattle.matrix_files.specs.PermFile.{RefusesPerm}
+use Rattle.matrix_files.specs.InverseFile.{RefusesInverse}
 use Rattle.tree_files.specs.Kinds.{word_of as tree_word}
 use Rattle.tree_files.specs.TreeFile.{RefusesTree}
 use Rattle.workflow_files.specs.WorkflowFile.{RefusesWorkflow}
@@ -18,7 +19,7 @@ use Rattle.bounded_plan_files.specs.BoundedPlanFile.{RefusesBoundedPlan}
 use Rattle.fence_files.specs.FenceFile.{RefusesFences}
 use Rattle.fence_files.specs.Kinds.{word_of as fence_word}
 use Rattle.reports.specs.Reports.{IsAnswer, IsReport}
-use Rattle.judging.specs.Files.{Answer, IsRefusedAs, IsRefusedFile, IsRefusedPerm, IsRefusedPlanPriority}
+use Rattle.judging.specs.Files.{Answer, IsRefusedAs, IsRefusedFile, IsRefusedPerm, IsRefusedInverse, IsRefusedPlanPriority}
 use Rattle.judging.specs.Files.{IsRefusedInRole, IsFirstRefusal, IsTooLarge}
 use Rattle.reports.specs.Promises.{IsPossible, Says}
 use Rattle.reports.specs.Clauses.{IsAnswered, IsCutShort}
@@ -27,8 +28,8 @@ use Rattle.workflow_files.specs.Kinds.{word_of as workflow_word}
 use Rattle.matrix_files.specs.OrderKinds.{perm_word}
 use Rattle.matrix_files.specs.OrderKinds.{order_file_word}
 use Rattle.plan_files.specs.Kinds.{word_of as plan_word}
-use Rattle.requests.specs.Request.{Ordering, natural, min_degree, perm_named, Request, FileRole, NamedFile, tree_file}
-use Rattle.requests.specs.Request.{workflow_file, shared_graph_file, matrix_file, perm_file, order_file, plan_file, priority_file}
+use Rattle.requests.specs.Request.{Ordering, natural, min_degree, perm_named, inverse_named, Request, FileRole, NamedFile, tree_file}
+use Rattle.requests.specs.Request.{workflow_file, shared_graph_file, matrix_file, perm_file, inverse_file, order_file, plan_file, priority_file}
 use Rattle.requests.specs.Request.{bounded_plan_file, fence_file, plan_priority_file, files_of, simulate, demo, IsInRange}
 use Rattle.judging.specs.declared.status.Status.{Status}
 use Rattle.judging.specs.declared.status.Status.TheVariants as status
@@ -63,6 +64,12 @@ module _ (ended : Status) (reports : IsOfReports ended) where
   refused_perm (matrix ∷ earlier) text answer (rows, is, refused) at =
       refused_file (codes "perm") perm_word (RefusesPerm (length rows) text) text answer refused at
 
+  refused_inverse : (earlier : List (List ℕ)) (text : List ℕ) (answer : Answer)
+      → IsRefusedInverse earlier text answer → answer.status ≡ ended → ⊥
+  refused_inverse [] text answer refused at = refused
+  refused_inverse (matrix ∷ earlier) text answer (rows, is, refused) at =
+      refused_file (codes "iperm") perm_word (RefusesInverse (length rows) text) text answer refused at
+
   refused_plan_priority : (earlier : List (List ℕ)) (text : List ℕ) (answer : Answer)
       → IsRefusedPlanPriority earlier text answer → answer.status ≡ ended → ⊥
   refused_plan_priority [] text answer refused at = refused
@@ -73,6 +80,7 @@ module _ (ended : Status) (reports : IsOfReports ended) where
   too_large natural text answer large at = large
   too_large min_degree text answer (rows, is, more, line) at = with_limit _ answer line at
   too_large (perm_named name) text answer large at = large
+  too_large (inverse_named name) text answer large at = large
 
   refused : (role : FileRole) (earlier : List (List ℕ)) (text : List ℕ) (answer : Answer)
       → IsRefusedInRole role earlier text answer → answer.status ≡ ended → ⊥
@@ -82,6 +90,7 @@ module _ (ended : Status) (reports : IsOfReports ended) where
   refused (matrix_file o) earlier text answer (inl r) at = refused_file (codes "matrix") matrix_word (RefusesPattern text) text answer r at
   refused (matrix_file o) earlier text answer (inr large) at = too_large o text answer large at
   refused perm_file earlier text answer r at = refused_perm earlier text answer r at
+  refused inverse_file earlier text answer r at = refused_inverse earlier text answer r at
   refused order_file earlier text answer r at = refused_file (codes "order") order_file_word (RefusesOrder text) text answer r at
   refused plan_file earlier text answer r at = refused_file (codes "plan") plan_word (RefusesPlan text) text answer r at
   refused bounded_plan_file earlier text answer r at = refused_file (codes "plan") plan_word (RefusesBoundedPlan text) text answer r at

@@ -1,5 +1,6 @@
 pub mod Replay
 pub mod Tree
+pub mod Columns
 pub mod Post
 pub mod Check
 pub mod CheckGraph
@@ -18,6 +19,7 @@ pub mod SpilledGaps
 pub mod Segments
 pub mod Fronts
 pub mod Reduce
+pub mod Carry
 pub mod Reports
 pub mod Promises
 pub mod Clauses

@@ -2,6 +2,7 @@
 use Rattle.std.specs.Prelude.{◌≡◌, ◌≤◌, ℕ, List}
 use Rattle.requests.specs.Request.{Request, replay, tree, post, check, planning, simulate, demo, upgrade, spill, segments, fronts, reduce}
 use Rattle.requests.specs.Request.{check_fences, check_graph, plan_graph, bounding, fencing, planned_fencing, standing, IsMakeable}
+use Rattle.requests.specs.Request.{columns, carrying}
 use Rattle.judging.specs.Files.{Answer}
 use Rattle.reports.specs.Reports.{IsReport}
 use Rattle.reports.specs.Check.{IsCertified}
@@ -19,6 +20,8 @@ use Rattle.reports.specs.Upgrade.{IsUpgraded}
 use Rattle.reports.specs.SpilledGaps.{AreSpilled}
 use Rattle.reports.specs.Segments.{IsReached}
 use Rattle.reports.specs.Fronts.{IsFactored}
+use Rattle.reports.specs.Columns.{AreColumns}
+use Rattle.reports.specs.Carry.{IsCarried}
 use Rattle.reports.specs.Reduce.{IsReduced, HasIrreducibleRest, IsReducedItems, HasItemsRefusal, are_second, by_version}
 use Rattle.judging.specs.declared.status.Status.{Status}
 use Rattle.judging.specs.declared.status.Status.TheVariants as status
@@ -33,6 +36,9 @@ abbrev pub Says : Request → List (List ℕ) → Status → List ℕ → Type 0
 Says (replay tasks source) texts ended printed = ended ≡ status.Done → IsReport (replay tasks source) texts (done_answer printed)
 -- where a tree was printed, it is the tree of the fronts of the matrix
 Says (tree matrix) texts ended printed = ended ≡ status.Done → IsReport (tree matrix) texts (done_answer printed)
+-- where columns of fronts were printed, they are those of the fronts of the matrix, each front before its parent; one after another they are an
+-- order of elimination with the same fill and the same fronts, and in a postorder of unmerged fronts it is its own natural postorder
+Says (columns matrix source format) texts ended printed = ended ≡ status.Done → AreColumns matrix source format texts printed
 -- where a postorder was printed, it is the best postorder of the tree, and the printed peak is its
 Says (post input) texts ended printed = ended ≡ status.Done → IsReport (post input) texts (done_answer printed)
 -- where a plan was checked and accepted, its order is a traversal of the input's system, its peak is the one that it states and that
@@ -86,6 +92,9 @@ Says (fronts matrix bound workers) texts ended printed = ended ≡ status.Done �
 Says (reduce name) texts ended printed = by_version (are_second texts)
     ((ended ≡ status.Done → IsReduced texts printed) × (ended ≡ status.NotSeriesParallel → HasIrreducibleRest texts printed))
     ((ended ≡ status.Done → IsReducedItems texts printed) × (ended ≡ status.NotSeriesParallel → HasItemsRefusal texts printed))
+-- where an order was carried from a term to its graph, the order that was printed is a traversal of the graph, with its peak, which is no higher
+-- than that of the order that was given in the system of the term, whose least peak is that of the graph
+Says (carrying graph source) texts ended printed = ended ≡ status.Done → IsCarried source texts printed
 -- where a bound was printed, no traversal of the task graph has a peak below it, and the evidence was printed with it, which `check` takes;
 -- it is at least what is there at the start, and what each task reads and needs; the peak that was printed before it is that of the order
 Says (bounding graph order effort) texts ended printed = ended ≡ status.Done → IsBounded order texts printed

@@ -4,6 +4,7 @@ use Rattle.std.specs.Prelude.{◌≡◌, ℕ, List, [], ◌⊎◌}
 use Rattle.trees.specs.declared.node.Node.{Node}
 use Rattle.requests.specs.Request.{Request, replay, tree, post, check, planning, simulate, demo, upgrade, spill, fronts, segments, reduce}
 use Rattle.requests.specs.Request.{check_fences, check_graph, plan_graph, bounding, fencing, planned_fencing, standing, files_of}
+use Rattle.requests.specs.Request.{columns, carrying}
 use Rattle.reports.specs.Replay.{IsReplayOf}
 use Rattle.judging.specs.Files.{IsTreeOf, IsFirstRefusal, IsMatrixTree, Answer}
 use Rattle.reports.specs.Check.{IsCheckOf}
@@ -22,6 +23,8 @@ use Rattle.reports.specs.Post.{IsPost}
 use Rattle.reports.specs.Upgrade.{IsUpgradeOf}
 use Rattle.reports.specs.SpilledGaps.{IsSpillOf}
 use Rattle.reports.specs.Segments.{IsSegmentsOf}
+use Rattle.reports.specs.Columns.{IsColumnsOf}
+use Rattle.reports.specs.Carry.{IsCarryOf}
 use Rattle.reports.specs.Reduce.{IsReduceOf}
 use Rattle.reports.specs.Fronts.{IsFrontsOf}
 
@@ -29,6 +32,7 @@ use Rattle.reports.specs.Fronts.{IsFrontsOf}
 abbrev pub IsReport : Request → List (List ℕ) → Answer → Type 0
 IsReport (replay tasks source) texts answer = IsReplayOf tasks source texts answer
 IsReport (tree m) texts answer = (nodes : List Node) × IsMatrixTree m texts nodes × (answer ≡ tree_answer nodes)
+IsReport (columns m source format) texts answer = IsColumnsOf m source format texts answer
 IsReport (post input) texts answer = (nodes : List Node) × IsTreeOf input texts nodes × IsPost nodes answer
 IsReport (check input plan workers) texts answer = IsCheckOf input texts answer
 IsReport (check_graph graph plan workers) texts answer = IsBoundCheckOf texts answer
@@ -45,16 +49,18 @@ IsReport (spill tasks source bound) texts answer = IsSpillOf tasks source bound 
 IsReport (segments input) texts answer = IsSegmentsOf input texts answer
 IsReport (fronts m bound workers) texts answer = IsFrontsOf m bound workers texts answer
 IsReport (reduce name) texts answer = IsReduceOf texts answer
+IsReport (carrying graph source) texts answer = IsCarryOf source texts answer
 IsReport (bounding graph order effort) texts answer = IsBoundOf order texts answer
 
 -- the files of a request decide its answer; but `plan` may print any plan of least peak with a certificate, or any of a graph, `spill` the
--- amounts of any spill plan of least volume, `reduce` any term of a graph or any irreducible rest, `bound` any bound for which there is
+-- amounts of any spill plan of least volume, `reduce` any term of a graph or any irreducible rest, with an order too, `bound` any bound for which there is
 -- evidence, `fence` any fences that amounts certify, along any plan where it plans the order, and `check` may judge the claims of a plan on any term of a graph
 abbrev pub IsDecided : Request → Type 0
 IsDecided (planning input format) = ⊥
 IsDecided (plan_graph graph order effort format) = ⊥
 IsDecided (spill tasks source bound) = ⊥
 IsDecided (reduce name) = ⊥
+IsDecided (carrying graph source) = ⊥
 IsDecided (bounding graph order effort) = ⊥
 IsDecided (check_graph graph plan workers) = ⊥
 IsDecided (check_fences tasks fences) = ⊥

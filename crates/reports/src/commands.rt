@@ -1,9 +1,11 @@
 //! The commands, each with what it asks for, what it reads, what it answers and how that is printed.
 
 pub mod bound;
+pub mod carry;
 pub mod check;
 pub mod check_fences;
 pub mod check_graph;
+pub mod columns;
 pub mod demo;
 pub mod fence;
 pub mod fronts;
@@ -49,6 +51,7 @@ pub fn report<R: Threads + Sync, F: Files, G: Gate>(
     match request {
         Request::Replay(asked) => replay::report_replay(alloc, files, asked),
         Request::Tree(matrix) => tree::report_tree(alloc, files, matrix),
+        Request::Columns(asked) => columns::report_columns(alloc, files, asked),
         Request::Post(input) => post::report_post(alloc, files, input),
         Request::Check(asked) => check::report_check(rt, alloc, files, asked, gate),
         Request::CheckGraph(asked) => {
@@ -69,6 +72,7 @@ pub fn report<R: Threads + Sync, F: Files, G: Gate>(
         Request::Segments(input) => segments::report_segments(alloc, files, input),
         Request::Fronts(asked) => fronts::report_fronts(rt, alloc, files, asked, gate),
         Request::Reduce(name) => reduce::report_reduce(alloc, files, name),
+        Request::Carry(asked) => carry::report_carry(alloc, files, asked),
         Request::Bound(asked) => bound::report_bound(alloc, files, asked),
     }
 }

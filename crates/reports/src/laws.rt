@@ -1,6 +1,6 @@
 //! Laws of the answers: what holds of each, without a call.
 
-ghost use Rattle.std.specs.Prelude.{◌≡◌, ◌≤◌, ℕ, List, [], ◌∷◌, length};
+ghost use Rattle.std.specs.Prelude.{◌≡◌, ◌≤◌, ℕ, List, Option, [], ◌∷◌, length};
 ghost use Rattle.patterns.specs.Pattern.{IsPattern};
 ghost use Rattle.mp_system.specs.System.{IsSystem, TaskSystem};
 ghost use Rattle.sp_terms.specs.declared.position.Position.{Position};
@@ -12,9 +12,12 @@ ghost use Rattle.reports.specs.Reports.{IsAnswer, IsDecided};
 ghost use Rattle.judging.specs.Files.{Answer, HasValue, IsRefusedInRole, IsSystemOf, IsOrderedMatrix, IsSystemWithTerm, IsTaskSystemOf, IsTreeOf};
 ghost use Rattle.reports.specs.Demo.{IsDemoOf, IsShown};
 ghost use Rattle.judging.specs.Judged.{AreWithin};
+ghost use Rattle.reports.specs.Carry.{IsCarried, IsCarryOf};
+ghost use Rattle.reports.specs.Columns.{AreColumns, IsColumnsOf};
 ghost use Rattle.reports.specs.Fronts.{IsFactored, IsFrontsOf};
-ghost use Rattle.reports.specs.Promises.{IsPossible, Says};
-ghost use Rattle.requests.specs.Request.{FileRole, IsInRange, IsMakeable, Input, OrderedMatrix, Ordering, Request, TreeInput, Upgrade};
+ghost use Rattle.reports.specs.Promises.{IsPossible, Says, done_answer};
+ghost use Rattle.requests.specs.Request.{ColumnsFormat, FileRole, IsInRange, IsMakeable, Input, Matrix, OrderedMatrix, Ordering, OrderSource};
+ghost use Rattle.requests.specs.Request.{Request, TreeInput, Upgrade};
 ghost use Rattle.requests.specs.Request.{TaskSource, input_files, task_files, tree_input_files, upgrade};
 ghost use Rattle.shared_systems.specs.Shared.{SharedTaskSystem};
 ghost use Rattle.judging.specs.Numbered.{IsNumberedTerm};
@@ -23,10 +26,12 @@ ghost use Rattle.requests.specs.declared.commands.demo.Demo.{Demo};
 ghost use Rattle.judging.specs.declared.status.Status.TheVariants.{Done};
 
 use activation::laws as run_laws;
+use assembly_tree::laws as assembly_laws;
 use bound_check::laws as bound_check_laws;
 use bounded_plan_files::laws as bounded_plan_laws;
 use claim_check::laws as claim_laws;
 use elim_tree::laws as fill_laws;
+use equivalent_orders::laws as elimination_laws;
 use fence_files::laws as fence_file_laws;
 use fences::laws as fence_laws;
 use graph_files::laws as graph_file_laws;
@@ -78,6 +83,8 @@ fn one_input()
     matrix_file_laws::exactly_one();
     matrix_file_laws::exactly_one_perm();
     matrix_file_laws::read_is_perm();
+    matrix_file_laws::exactly_one_inverse();
+    matrix_file_laws::inverse_is_perm();
     order_laws::one_minimum_degree_order();
     front_laws::one_front_tree();
     front_laws::front_tree_is_tree();
@@ -118,6 +125,7 @@ fn one_file()
     matrix_file_laws::exactly_one();
     matrix_file_laws::exactly_one_order();
     matrix_file_laws::exactly_one_perm();
+    matrix_file_laws::exactly_one_inverse();
     plan_laws::exactly_one();
     shared_graph_laws::exactly_one();
     bounded_plan_laws::exactly_one();
@@ -183,6 +191,41 @@ fn one_fronts()
     rounds_laws::columns_of_front();
 }
 
+// The columns of the fronts of a matrix have one answer, and one that is done says what it is to say.
+fn one_columns()
+    ensures one { (m : Matrix) (source : Option OrderSource) (format : ColumnsFormat) (texts : List (List ℕ)) (one two : Answer) →
+        IsColumnsOf m source format texts one → IsColumnsOf m source format texts two → one ≡ two }
+    ensures said { (m : Matrix) (source : Option OrderSource) (format : ColumnsFormat) (texts : List (List ℕ)) (printed : List ℕ) →
+        IsColumnsOf m source format texts (done_answer printed) → AreColumns m source format texts printed }
+{
+    one_input();
+    matrix_file_laws::exactly_one_order();
+    matrix_file_laws::read_is_perm();
+    matrix_file_laws::inverse_is_perm();
+    matrix_file_laws::printed_perm();
+    plan_laws::exactly_one();
+    system_laws::traversal_law();
+    fill_laws::pattern_of_rows();
+    front_laws::one_analysis();
+    assembly_laws::amalgamation_is_assembly();
+    elimination_laws::front_orders();
+    elimination_laws::columns_of_fronts();
+    elimination_laws::topological_orders();
+    elimination_laws::same_fronts();
+    elimination_laws::fronts_in_postorder();
+}
+
+// An order that is carried from a term to its graph says what it is to say.
+fn carried_orders()
+    ensures { (source : OrderSource) (texts : List (List ℕ)) (answer : Answer) → IsCarryOf source texts answer → answer.status ≡ Done →
+        IsCarried source texts answer.text }
+{
+    shared_graph_laws::read_law();
+    reduction_laws::named_term_law();
+    shared_laws::one_reader_law();
+    shared_reduction_laws::told_term_law();
+}
+
 /// The rows of the fronts of a matrix are the same for every bound and every number of workers.
 pub fn one_list_of_rows()
     ensures { (m : OrderedMatrix) (bound other workers more : ℕ) (texts : List (List ℕ)) (printed again : List ℕ)
@@ -215,11 +258,12 @@ pub fn one_answer()
     one_demo();
     one_upgrade();
     one_fronts();
+    one_columns();
 }
 
 /// An answer says what its request promises, command by command: a yes certifies, a plan is best, a trace is of a run that was simulated,
 /// what was upgraded is what the printed file says, what is spilled is a spill plan of least volume, printed levels are reached, and none
-/// below them, the rows of a front are a structure of the filled graph, the workflow of a task graph has the graph's traversals, a graph whose
+/// below them, the rows of a front are a structure of the filled graph, the columns of fronts are an order with the same fill, the workflow of a task graph has the graph's traversals, a graph whose
 /// rest is told has no term, or one of version 2 none of that kind, no traversal of a graph has a peak below a bound that is told or
 /// accepted, and `check` says yes to the plan of a graph. It follows from being an answer.
 pub fn what_answers_say()
@@ -252,6 +296,8 @@ pub fn what_answers_say()
     one_demo();
     one_upgrade();
     one_fronts();
+    one_columns();
+    carried_orders();
 }
 
 /// A file that `upgrade` wrote, as `print_tree_2`, `print_workflow_2`, `print_shared_graph` or `print_plan_2` prints it, stays as it is: `upgrade` of it, with no

@@ -1,6 +1,7 @@
 //! The top call over files and a sink in memory: each command once, and what the program cannot be made to do from outside. What the program
 //! prints of many files is in `tools/test/reports/`.
 
+mod carrying;
 mod commands;
 mod faults;
 mod large;

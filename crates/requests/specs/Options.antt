@@ -3,7 +3,7 @@ use Rattle.std.specs.Prelude.{ℕ, List, [], ◌∷◌, codes}
 
 -- what a matrix takes besides its name
 abbrev pub matrix_options : List (List ℕ)
-matrix_options = codes "perm" ∷ codes "ordering" ∷ codes "shape" ∷ codes "amalgamate" ∷ codes "inplace" ∷ []
+matrix_options = codes "perm" ∷ codes "iperm" ∷ codes "ordering" ∷ codes "shape" ∷ codes "amalgamate" ∷ codes "inplace" ∷ []
 
 -- a matrix; a tree or a matrix; any input; an input or a task graph
 abbrev pub matrix_names : List (List ℕ)

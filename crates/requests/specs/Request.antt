@@ -21,6 +21,8 @@ pub data Ordering : Type 0 where
   min_degree : Ordering
   -- of a permutation file, by its name
   perm_named : List ℕ → Ordering
+  -- of a file of its inverse, by its name
+  inverse_named : List ℕ → Ordering
 
 -- a matrix, by the name of its file, and how it becomes a tree of fronts
 pub record Matrix : Type 0 where
@@ -67,11 +69,18 @@ pub record Fencing : Type 0 where
   pub bound : ℕ
   -- for runs on at most so many workers; with none, on any number of them
   pub workers : Option ℕ
+  -- whether fences are left out that the rest of them can do without
+  pub fewest : Bool
 
 -- how a plan is printed: as a plan file, or as JSON
 pub data PlanFormat : Type 0 where
   as_file : PlanFormat
   as_json : PlanFormat
+
+-- how the columns of fronts are printed: a line for each front, or as a permutation file
+pub data ColumnsFormat : Type 0 where
+  by_front : ColumnsFormat
+  as_perm : ColumnsFormat
 
 -- what is written as version 2: a tree, a workflow, a task graph or a plan, by the name of its file
 pub data Upgrade : Type 0 where
@@ -86,6 +95,8 @@ pub data Request : Type 0 where
   replay : TaskSource → OrderSource → Request
   -- the tree of a matrix
   tree : Matrix → Request
+  -- the columns of the fronts of a matrix, one front after another: in an order of the fronts, or with none by rising number
+  columns : Matrix → Option OrderSource → ColumnsFormat → Request
   -- the best postorder of a tree, and its peak
   post : TreeInput → Request
   -- whether a plan, by the name of its file, is accepted for an input; by so many workers
@@ -118,6 +129,8 @@ pub data Request : Type 0 where
   fronts : OrderedMatrix → ℕ → ℕ → Request
   -- the term of a task graph, by the name of its file
   reduce : List ℕ → Request
+  -- an order of the tasks of that term, by the tasks of the graph
+  carrying : List ℕ → OrderSource → Request
   -- a number that no order of a task graph has a peak below, and the peak of the order of a file, if one is named; with so much effort
   bounding : List ℕ → Option (List ℕ) → ℕ → Request
 
@@ -135,11 +148,18 @@ ordering_named word =
     else if bytes_eq word (codes "mindeg") then Some min_degree
     else None
 
-abbrev pub ordering_of : Option (List ℕ) → Option (List ℕ) → Option Ordering
-ordering_of None None = Some natural
-ordering_of None (Some word) = ordering_named word
-ordering_of (Some name) None = Some (perm_named name)
-ordering_of (Some name) (Some word) = None
+-- the same, or a file of the inverse, at most one of them; by what is given
+abbrev pub ordering_of : Option (List ℕ) → Option (List ℕ) → Option (List ℕ) → Option Ordering
+ordering_of None None None = Some natural
+ordering_of None None (Some word) = ordering_named word
+ordering_of None (Some name) None = Some (inverse_named name)
+ordering_of (Some name) None None = Some (perm_named name)
+ordering_of perm inverse word = None
+
+-- of these options
+abbrev pub ordering_given : List Given → Option Ordering
+ordering_given options =
+    ordering_of (value_of (codes "perm") options) (value_of (codes "iperm") options) (value_of (codes "ordering") options)
 
 -- a number of zeros is at most 2^40
 abbrev pub zeros_within : ℕ → Option (Option ℕ)
@@ -153,7 +173,7 @@ abbrev pub front_shape : Bool → Shape
 front_shape false = shapes.Triangle
 front_shape true = shapes.Square
 
--- the matrix of this name, and what is given of `--perm NAME` or `--ordering natural|mindeg`, `--shape triangle|square`,
+-- the matrix of this name, and what is given of `--perm NAME`, `--iperm NAME` or `--ordering natural|mindeg`, `--shape triangle|square`,
 -- `--amalgamate ZEROS` and `--inplace no|yes`
 abbrev pub matrix_of : List ℕ → List Given → Option Matrix
 matrix_of name options =
@@ -165,7 +185,7 @@ matrix_of name options =
       ordering = ordering;
       fronts = record { shape = front_shape square; zeros = zeros; inplace = inplace };
     })
-    (ordering_of (value_of (codes "perm") options) (value_of (codes "ordering") options)))
+    (ordering_given options))
     (is_second (codes "no") (codes "yes") (value_of (codes "inplace") options)))
     (zeros_named (value_of (codes "amalgamate") options)))
     (is_second (codes "triangle") (codes "square") (value_of (codes "shape") options))
@@ -210,6 +230,13 @@ source_of None None = None
 source_of None (Some plan) = Some (plan_named plan)
 source_of (Some order) None = Some (order_named order)
 source_of (Some order) (Some plan) = None
+
+-- an order file or a plan file, if one of them is given, not both
+abbrev pub source_given : Option (List ℕ) → Option (List ℕ) → Option (Option OrderSource)
+source_given None None = Some None
+source_given None (Some plan) = Some (Some (plan_named plan))
+source_given (Some order) None = Some (Some (order_named order))
+source_given (Some order) (Some plan) = None
 
 -- a number that is given
 abbrev pub number_given : Option (List ℕ) → Option ℕ
@@ -263,6 +290,10 @@ abbrev pub format_of : Bool → PlanFormat
 format_of false = as_file
 format_of true = as_json
 
+abbrev pub columns_format_of : Bool → ColumnsFormat
+columns_format_of false = by_front
+columns_format_of true = as_perm
+
 -- ---- files
 
 -- what a file is read as
@@ -274,6 +305,8 @@ pub data FileRole : Type 0 where
   -- a matrix whose rows are to be eliminated in this order
   matrix_file : Ordering → FileRole
   perm_file : FileRole
+  -- of the inverse of an order of elimination
+  inverse_file : FileRole
   order_file : FileRole
   plan_file : FileRole
   -- a plan of version 3
@@ -292,6 +325,7 @@ abbrev pub ordering_files : Ordering → List NamedFile
 ordering_files natural = []
 ordering_files min_degree = []
 ordering_files (perm_named name) = record { role = perm_file; name = name } ∷ []
+ordering_files (inverse_named name) = record { role = inverse_file; name = name } ∷ []
 
 abbrev pub ordered_matrix_files : OrderedMatrix → List NamedFile
 ordered_matrix_files m = record { role = matrix_file m.ordering; name = m.name } ∷ ordering_files m.ordering
@@ -315,6 +349,11 @@ abbrev pub source_file : OrderSource → NamedFile
 source_file (order_named name) = record { role = order_file; name = name }
 source_file (plan_named name) = record { role = plan_file; name = name }
 
+-- the file of an order, if there is one
+abbrev pub source_files : Option OrderSource → List NamedFile
+source_files None = []
+source_files (Some source) = source_file source ∷ []
+
 -- an order file, if one is named
 abbrev pub order_files : Option (List ℕ) → List NamedFile
 order_files None = []
@@ -335,6 +374,7 @@ upgrade_files (plan_upgrade name priority) = record { role = plan_file; name = n
 abbrev pub files_of : Request → List NamedFile
 files_of (replay tasks source) = task_files tasks ++ source_file source ∷ []
 files_of (tree m) = matrix_files m
+files_of (columns m source format) = matrix_files m ++ source_files source
 files_of (post input) = tree_input_files input
 files_of (check input plan workers) = input_files input ++ source_file (plan_named plan) ∷ []
 files_of (check_graph graph plan workers) =
@@ -352,4 +392,5 @@ files_of (spill tasks source bound) = task_files tasks ++ source_file source ∷
 files_of (segments input) = input_files input
 files_of (fronts m bound workers) = ordered_matrix_files m
 files_of (reduce name) = record { role = shared_graph_file; name = name } ∷ []
+files_of (carrying graph source) = record { role = shared_graph_file; name = graph } ∷ source_file source ∷ []
 files_of (bounding graph order effort) = record { role = shared_graph_file; name = graph } ∷ order_files order

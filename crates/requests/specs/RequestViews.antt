@@ -11,6 +11,8 @@ use Rattle.requests.specs.declared.request.OrderSource.{OrderSource}
 use Rattle.requests.specs.declared.request.OrderSource.TheVariants as sources
 use Rattle.requests.specs.declared.request.PlanFormat.{PlanFormat}
 use Rattle.requests.specs.declared.request.PlanFormat.TheVariants as formats
+use Rattle.requests.specs.declared.commands.columns.ColumnsFormat.{ColumnsFormat}
+use Rattle.requests.specs.declared.commands.columns.ColumnsFormat.TheVariants as columns_formats
 use Rattle.requests.specs.declared.request.Request.{Request}
 use Rattle.requests.specs.declared.request.Request.TheVariants as commands
 use Rattle.requests.specs.declared.commands.fence.Fencing.{Fencing}
@@ -27,6 +29,7 @@ abbrev pub ordering_view : Ordering → requests.Ordering
 ordering_view orderings.Natural = requests.natural
 ordering_view orderings.MinDegree = requests.min_degree
 ordering_view (orderings.Perm name) = requests.perm_named name.now
+ordering_view (orderings.Inverse name) = requests.inverse_named name.now
 
 abbrev pub matrix_view : Matrix → requests.Matrix
 matrix_view m = record { name = m.name.now; ordering = ordering_view m.ordering; fronts = m.fronts }
@@ -54,14 +57,18 @@ abbrev pub simulation_view : Simulation → requests.Simulation
 simulation_view names = record { bound = names.bound; workers = names.workers; priority = option_map (λ name. name.now) names.priority }
 
 abbrev pub fencing_view : Fencing → requests.Fencing
-fencing_view names = record { bound = names.bound; workers = names.workers }
+fencing_view names = record { bound = names.bound; workers = names.workers; fewest = names.fewest }
 
 abbrev pub planned_fencing_view : PlannedFencing → requests.Fencing
-planned_fencing_view names = record { bound = names.bound; workers = names.workers }
+planned_fencing_view names = record { bound = names.bound; workers = names.workers; fewest = names.fewest }
 
 abbrev pub format_view : PlanFormat → requests.PlanFormat
 format_view formats.File = requests.as_file
 format_view formats.Json = requests.as_json
+
+abbrev pub columns_format_view : ColumnsFormat → requests.ColumnsFormat
+columns_format_view columns_formats.ByFront = requests.by_front
+columns_format_view columns_formats.Perm = requests.as_perm
 
 abbrev pub upgrade_view : Upgrade → requests.Upgrade
 upgrade_view (upgrades.Tree name) = requests.tree_upgrade name.now
@@ -72,6 +79,8 @@ upgrade_view (upgrades.Plan name priority) = requests.plan_upgrade name.now (opt
 abbrev pub request_view : Request → requests.Request
 request_view (commands.Replay r) = requests.replay (tasks_view r.tasks) (source_view r.source)
 request_view (commands.Tree m) = requests.tree (matrix_view m)
+request_view (commands.Columns c) =
+    requests.columns (matrix_view c.matrix) (option_map source_view c.source) (columns_format_view c.format)
 request_view (commands.Post input) = requests.post (tree_input_view input)
 request_view (commands.Check c) = requests.check (input_view c.input) c.plan.now c.workers
 request_view (commands.CheckGraph c) = requests.check_graph c.graph.now c.plan.now c.workers
@@ -89,4 +98,5 @@ request_view (commands.Spill s) = requests.spill (tasks_view s.tasks) (source_vi
 request_view (commands.Segments input) = requests.segments (input_view input)
 request_view (commands.Fronts run) = requests.fronts (ordered_matrix_view run.matrix) run.bound run.workers
 request_view (commands.Reduce name) = requests.reduce name.now
+request_view (commands.Carry c) = requests.carrying c.graph.now (source_view c.source)
 request_view (commands.Bound b) = requests.bounding b.graph.now (option_map (λ name. name.now) b.order) b.effort

@@ -1,12 +1,14 @@
 -- The words that ask for each request: a command of the table, and options of it, each at most once.
 use Rattle.std.specs.Prelude.{◌≡◌, ℕ, List, [], ◌∷◌, Option, option_map, option_and_then}
-use Rattle.std.specs.Prelude.{codes, ◌*◌, nat_le, Some, None, if◌then◌else◌}
+use Rattle.std.specs.Prelude.{codes, ◌*◌, nat_le, Some, None, Bool, if◌then◌else◌}
 use Rattle.std.specs.Prelude.{find, map}
 use Rattle.std.specs.Prelude.{String, string_bytes}
-use Rattle.requests.specs.Request.{Request, TaskSource, input_tasks, graph_tasks, bounding, effort_or_default, check, check_fences, check_graph}
+use Rattle.requests.specs.Request.{Request, OrderSource, TaskSource, input_tasks, graph_tasks, bounding, effort_or_default, check, check_fences, check_graph}
 use Rattle.requests.specs.Request.{input_of, workers_or_one, demo, gives_any, number_given, number_up_to}
-use Rattle.requests.specs.Request.{fencing, planned_fencing, standing, workers_given, fronts, ordering_of, planning, plan_graph, PlanFormat, is_second, format_of}
-use Rattle.requests.specs.Request.{post, tree_input_of, reduce, replay, tasks_of, source_of, segments}
+use Rattle.requests.specs.Request.{fencing, planned_fencing, standing, workers_given, fronts, ordering_given}
+use Rattle.requests.specs.Request.{planning, plan_graph, PlanFormat, is_second, format_of}
+use Rattle.requests.specs.Request.{post, tree_input_of, reduce, carrying, replay, tasks_of, source_of, source_given, segments}
+use Rattle.requests.specs.Request.{columns, columns_format_of}
 use Rattle.requests.specs.Request.{simulate, spill, tree, matrix_of}
 use Rattle.requests.specs.Request.{upgrade, Upgrade, tree_upgrade, workflow_upgrade, graph_upgrade, plan_upgrade}
 use Rattle.std.specs.Str.{bytes_eq}
@@ -85,24 +87,32 @@ made_of kind options =
 abbrev pub demo_of : List Given → Option Request
 demo_of options = option_map demo (made_of (kind_or_tree (value_of (codes "kind") options)) options)
 
--- `fence`, one input or task graph, `--order NAME` or `--plan NAME`, `--bound B`, and `--workers N` if it is given
+-- `--fewest no|yes`
+abbrev pub fewest_of : List Given → Option Bool
+fewest_of options = is_second (codes "no") (codes "yes") (value_of (codes "fewest") options)
+
+-- `fence`, one input or task graph, `--order NAME` or `--plan NAME`, `--bound B`, and `--workers N` and `--fewest no|yes` if they are given
 abbrev pub fencing_of : List Given → Option Request
 fencing_of options =
     option_and_then (λ tasks.
     option_and_then (λ source.
     option_and_then (λ bound.
-    option_map (λ workers. fencing tasks source (record { bound = bound; workers = workers }))
+    option_and_then (λ workers.
+    option_map (λ fewest. fencing tasks source (record { bound = bound; workers = workers; fewest = fewest }))
+    (fewest_of options))
     (workers_given (value_of (codes "workers") options)))
     (number_given (value_of (codes "bound") options)))
     (source_of (value_of (codes "order") options) (value_of (codes "plan") options)))
     (tasks_of options)
 
--- `fence`, one input or task graph, `--bound B`, and `--workers N` if it is given
+-- `fence`, one input or task graph, `--bound B`, and `--workers N` and `--fewest no|yes` if they are given
 abbrev pub planned_fencing_of : List Given → Option Request
 planned_fencing_of options =
     option_and_then (λ tasks.
     option_and_then (λ bound.
-    option_map (λ workers. planned_fencing tasks (record { bound = bound; workers = workers }))
+    option_and_then (λ workers.
+    option_map (λ fewest. planned_fencing tasks (record { bound = bound; workers = workers; fewest = fewest }))
+    (fewest_of options))
     (workers_given (value_of (codes "workers") options)))
     (number_given (value_of (codes "bound") options)))
     (tasks_of options)
@@ -110,7 +120,8 @@ planned_fencing_of options =
 -- `fence`, one input or task graph, and `--workers N` if it is given
 abbrev pub standing_of : List Given → Option Request
 standing_of options =
-    option_and_then (λ tasks. option_map (standing tasks) (workers_given (value_of (codes "workers") options)))
+    if gives_any (codes "fewest" ∷ []) options then None
+    else option_and_then (λ tasks. option_map (standing tasks) (workers_given (value_of (codes "workers") options)))
     (tasks_of options)
 
 -- along the order that is given, or that of the plan; with a bound alone the order is planned, and without one the tasks are taken as they stand
@@ -120,7 +131,7 @@ fence_of options =
     else if gives_any (codes "bound" ∷ []) options then planned_fencing_of options
     else standing_of options
 
--- `fronts`, `--matrix NAME`, its `--perm NAME` or `--ordering natural|mindeg` if one is given, `--bound B` and `--workers N`
+-- `fronts`, `--matrix NAME`, its `--perm NAME`, `--iperm NAME` or `--ordering natural|mindeg` if one is given, `--bound B` and `--workers N`
 abbrev pub fronts_of : List Given → Option Request
 fronts_of options =
     option_and_then (λ name.
@@ -129,7 +140,7 @@ fronts_of options =
     option_map (fronts (record { name = name; ordering = ordering }) bound)
     (number_up_to most_workers (value_of (codes "workers") options)))
     (number_given (value_of (codes "bound") options)))
-    (ordering_of (value_of (codes "perm") options) (value_of (codes "ordering") options)))
+    (ordering_given options))
     (value_of (codes "matrix") options)
 
 -- the plan of an input, with which neither an order nor an effort goes, or of a task graph
@@ -153,9 +164,16 @@ plan_of options =
 abbrev pub post_of : List Given → Option Request
 post_of options = option_map post (tree_input_of options)
 
--- `reduce` and `--graph NAME`
+-- `reduce` and `--graph NAME`; and `--order NAME` or `--plan NAME` for an order of the tasks of its term
+abbrev pub reduced_with : List ℕ → Option OrderSource → Request
+reduced_with graph None = reduce graph
+reduced_with graph (Some source) = carrying graph source
+
 abbrev pub reduce_of : List Given → Option Request
-reduce_of options = option_map reduce (value_of (codes "graph") options)
+reduce_of options =
+    option_and_then (λ graph.
+    option_map (reduced_with graph) (source_given (value_of (codes "order") options) (value_of (codes "plan") options)))
+    (value_of (codes "graph") options)
 
 -- `replay`, one input or task graph, and `--order NAME` or `--plan NAME`
 abbrev pub replay_of : List Given → Option Request
@@ -189,6 +207,18 @@ spill_of options =
     option_map (spill tasks source) (number_given (value_of (codes "bound") options)))
     (source_of (value_of (codes "order") options) (value_of (codes "plan") options)))
     (tasks_of options)
+
+-- `columns`, a matrix, `--order NAME` or `--plan NAME`, and `--print text` or `--print perm`, if they are given
+abbrev pub columns_of : List Given → Option Request
+columns_of options =
+    option_and_then (λ name.
+    option_and_then (λ matrix.
+    option_and_then (λ source.
+    option_map (λ perm. columns matrix source (columns_format_of perm))
+    (is_second (codes "text") (codes "perm") (value_of (codes "print") options)))
+    (source_given (value_of (codes "order") options) (value_of (codes "plan") options)))
+    (matrix_of name options))
+    (value_of (codes "matrix") options)
 
 -- `tree` and a matrix
 abbrev pub tree_request_of : List Given → Option Request
@@ -243,16 +273,17 @@ commands =
     ∷ record { name = codes "segments"; options = input_names; asks = segments_of }
     ∷ record {
       name = codes "fronts";
-      options = codes "bound" ∷ codes "workers" ∷ codes "matrix" ∷ codes "perm" ∷ codes "ordering" ∷ [];
+      options = codes "bound" ∷ codes "workers" ∷ codes "matrix" ∷ codes "perm" ∷ codes "iperm" ∷ codes "ordering" ∷ [];
       asks = fronts_of;
     }
-    ∷ record { name = codes "reduce"; options = codes "graph" ∷ []; asks = reduce_of }
+    ∷ record { name = codes "reduce"; options = codes "graph" ∷ codes "order" ∷ codes "plan" ∷ []; asks = reduce_of }
     ∷ record { name = codes "bound"; options = codes "graph" ∷ codes "order" ∷ codes "effort" ∷ []; asks = bound_of }
     ∷ record {
       name = codes "fence";
-      options = codes "order" ∷ codes "plan" ∷ codes "bound" ∷ codes "workers" ∷ task_names;
+      options = codes "order" ∷ codes "plan" ∷ codes "bound" ∷ codes "workers" ∷ codes "fewest" ∷ task_names;
       asks = fence_of;
     }
+    ∷ record { name = codes "columns"; options = codes "print" ∷ codes "order" ∷ codes "plan" ∷ matrix_names; asks = columns_of }
     ∷ []
 
 abbrev pub shape_of : Command → Shape

@@ -2,6 +2,7 @@
 
 pub mod bound;
 pub mod check;
+pub mod columns;
 pub mod demo;
 pub mod fence;
 pub mod fronts;
@@ -25,7 +26,7 @@ use command_line::{Line, Shape, read_words};
 use std::alloc::{AllocError, Global};
 
 // Each command, with the names of its options.
-static COMMANDS: [Shape; 14] = [
+static COMMANDS: [Shape; 15] = [
     Shape {
         name: "replay",
         options: &[&["order", "plan", "graph"], INPUT, MATRIX_OPTIONS],
@@ -80,11 +81,11 @@ static COMMANDS: [Shape; 14] = [
     },
     Shape {
         name: "fronts",
-        options: &[&["bound", "workers", "matrix", "perm", "ordering"]],
+        options: &[&["bound", "workers", "matrix", "perm", "iperm", "ordering"]],
     },
     Shape {
         name: "reduce",
-        options: &[&["graph"]],
+        options: &[&["graph", "order", "plan"]],
     },
     Shape {
         name: "bound",
@@ -93,10 +94,14 @@ static COMMANDS: [Shape; 14] = [
     Shape {
         name: "fence",
         options: &[
-            &["order", "plan", "bound", "workers", "graph"],
+            &["order", "plan", "bound", "workers", "fewest", "graph"],
             INPUT,
             MATRIX_OPTIONS,
         ],
+    },
+    Shape {
+        name: "columns",
+        options: &[&["print", "order", "plan"], MATRIX, MATRIX_OPTIONS],
     },
 ];
 
@@ -119,6 +124,7 @@ fn command_of<'a>(line: &Line<'a>) -> Option<Request<'a>>
         "reduce" => reduce::reduce_of(line),
         "bound" => bound::bound_of(line),
         "fence" => fence::fence_of(line),
+        "columns" => columns::columns_of(line),
         _ => None,
     }
 }

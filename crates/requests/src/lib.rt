@@ -9,10 +9,12 @@ mod request;
 
 pub use commands::bound::Bounding;
 pub use commands::check::{Check, FenceCheck, GraphCheck};
+pub use commands::columns::{Columns, ColumnsFormat};
 pub use commands::demo::Demo;
 pub use commands::fence::{Fencing, PlannedFencing};
 pub use commands::fronts::FrontRun;
 pub use commands::plan::GraphPlan;
+pub use commands::reduce::Carried;
 pub use commands::replay::Replay;
 pub use commands::request_of;
 pub use commands::simulate::Simulation;

@@ -1,6 +1,6 @@
 ghost use Rattle.std.specs.Prelude.{◌≡◌, ◌<◌, ◌≤◌, ◌^◌, IfSome, option_map};
-ghost use Rattle.requests.specs.Request.{is_second, ordering_named, ordering_of, zeros_named, matrix_of, gives_any, tree_input_of, input_of};
-ghost use Rattle.requests.specs.Request.{tasks_of, source_of, number_given, number_up_to, effort_or_default};
+ghost use Rattle.requests.specs.Request.{is_second, ordering_named, ordering_of, ordering_given, zeros_named, matrix_of, gives_any, tree_input_of, input_of};
+ghost use Rattle.requests.specs.Request.{tasks_of, source_of, source_given, number_given, number_up_to, effort_or_default};
 ghost use Rattle.requests.specs.Request.{workers_given, workers_or_one, AreWorkers};
 ghost use Rattle.command_line.specs.Views.{texts};
 ghost use Rattle.requests.specs.Options.{matrix_options, tree_names, input_names};
@@ -8,10 +8,12 @@ ghost use Rattle.requests.specs.RequestViews.{ordering_view, matrix_view, tree_i
 
 use crate::commands::bound::Bounding;
 use crate::commands::check::{Check, FenceCheck, GraphCheck};
+use crate::commands::columns::Columns;
 use crate::commands::demo::Demo;
 use crate::commands::fence::{Fencing, PlannedFencing};
 use crate::commands::fronts::FrontRun;
 use crate::commands::plan::GraphPlan;
+use crate::commands::reduce::Carried;
 use crate::commands::replay::Replay;
 use crate::commands::simulate::Simulation;
 use crate::commands::spill::Spilling;
@@ -31,6 +33,8 @@ pub enum Ordering<'a> {
     MinDegree,
     /// Of a permutation file, by its name.
     Perm(&'a str),
+    /// Of a file of its inverse, by its name.
+    Inverse(&'a str),
 }
 
 /// A matrix, by the name of its file, and how it becomes a tree of fronts.
@@ -93,6 +97,8 @@ pub enum Request<'a> {
     Replay(Replay<'a>),
     /// The tree of a matrix.
     Tree(Matrix<'a>),
+    /// The columns of the fronts of a matrix, one front after another.
+    Columns(Columns<'a>),
     /// The best postorder of a tree, and its peak.
     Post(TreeInput<'a>),
     /// Whether the plan is accepted for the input.
@@ -125,6 +131,8 @@ pub enum Request<'a> {
     Fronts(FrontRun<'a>),
     /// The term of a task graph, by the name of its file.
     Reduce(&'a str),
+    /// An order of the tasks of that term, by the tasks of the graph.
+    Carry(Carried<'a>),
     /// What no order of a task graph has a peak below, with evidence.
     Bound(Bounding<'a>),
 }
@@ -132,7 +140,14 @@ pub enum Request<'a> {
 // ---- the options that commands share
 
 /// What a matrix takes besides its name.
-pub(crate) const MATRIX_OPTIONS: &[&str] = &["perm", "ordering", "shape", "amalgamate", "inplace"];
+pub(crate) const MATRIX_OPTIONS: &[&str] = &[
+    "perm",
+    "iperm",
+    "ordering",
+    "shape",
+    "amalgamate",
+    "inplace",
+];
 
 /// The names of files: of a matrix; of a tree or a matrix; of any input. Each goes with the options of a matrix.
 pub(crate) const MATRIX: &[&str] = &["matrix"];
@@ -166,16 +181,33 @@ fn ordering_named<'a>(word: &str) -> Option<Ordering<'a>>
     }
 }
 
-/// A permutation file, or an order by its name, not both.
-pub fn ordering_of<'a>(perm: Option<&'a str>, ordering: Option<&'a str>) -> Option<Ordering<'a>>
-    ensures { option_map ordering_view result ≡ ordering_of (option_map (λ s. s.now) perm.entry) (option_map (λ s. s.now) ordering.entry) }
+// A permutation file, a file of an inverse, or an order by its name, at most one of them.
+fn ordering_of<'a>(
+    perm: Option<&'a str>,
+    inverse: Option<&'a str>,
+    ordering: Option<&'a str>,
+) -> Option<Ordering<'a>>
+    ensures { option_map ordering_view result ≡ ordering_of (option_map (λ s. s.now) perm.entry) (option_map (λ s. s.now) inverse.entry)
+        (option_map (λ s. s.now) ordering.entry) }
 {
-    match (perm, ordering) {
-        (None, None) => Some(Ordering::Natural),
-        (None, Some(word)) => ordering_named(word),
-        (Some(name), None) => Some(Ordering::Perm(name)),
-        (Some(_), Some(_)) => None,
+    match (perm, inverse, ordering) {
+        (None, None, None) => Some(Ordering::Natural),
+        (None, None, Some(word)) => ordering_named(word),
+        (None, Some(name), None) => Some(Ordering::Inverse(name)),
+        (Some(name), None, None) => Some(Ordering::Perm(name)),
+        _ => None,
     }
+}
+
+/// The order in which the rows of a matrix are eliminated, as its options give it.
+pub fn ordering_given<'a>(line: &Line<'a>) -> Option<Ordering<'a>>
+    ensures { option_map ordering_view result ≡ ordering_given line.now.options }
+{
+    ordering_of(
+        line.value("perm"),
+        line.value("iperm"),
+        line.value("ordering"),
+    )
 }
 
 // How many zeros a merge may add: at most 2^40.
@@ -200,7 +232,7 @@ pub fn matrix_of<'a>(name: &'a str, line: &Line<'a>) -> Option<Matrix<'a>>
     let square = is_second(line.value("shape"), "triangle", "square")?;
     let zeros = zeros_of(line.value("amalgamate"))?;
     let inplace = is_second(line.value("inplace"), "no", "yes")?;
-    let ordering = ordering_of(line.value("perm"), line.value("ordering"))?;
+    let ordering = ordering_given(line)?;
     let shape = if square {
         Shape::Square
     } else {
@@ -304,6 +336,22 @@ pub fn source_of<'a>(order: Option<&'a str>, plan: Option<&'a str>) -> Option<Or
         (Some(order), None) => Some(OrderSource::Order(order)),
         (None, Some(plan)) => Some(OrderSource::Plan(plan)),
         (None, None) => None,
+        (Some(_), Some(_)) => None,
+    }
+}
+
+/// An order file or a plan file, if one of them is given, not both.
+pub fn source_given<'a>(
+    order: Option<&'a str>,
+    plan: Option<&'a str>,
+) -> Option<Option<OrderSource<'a>>>
+    ensures { option_map (option_map source_view) result
+        ≡ source_given (option_map (λ s. s.now) order.entry) (option_map (λ s. s.now) plan.entry) }
+{
+    match (order, plan) {
+        (None, None) => Some(None),
+        (None, Some(plan)) => Some(Some(OrderSource::Plan(plan))),
+        (Some(order), None) => Some(Some(OrderSource::Order(order))),
         (Some(_), Some(_)) => None,
     }
 }

@@ -10,6 +10,7 @@ use Rattle.requests.specs.Request.{demo, upgrade, tree_upgrade, graph_upgrade, p
 use Rattle.requests.specs.Request.{workflow_file, matrix_file, perm_file, order_file, plan_file, priority_file}
 use Rattle.requests.specs.Request.{check_fences, check_graph, bounding, default_effort, bounded_plan_file, fence_file, fencing, planned_fencing, standing}
 use Rattle.requests.specs.Request.{plan_priority_file, NamedFile, input_tasks, graph_tasks, shared_graph_file}
+use Rattle.requests.specs.Request.{inverse_named, inverse_file, columns, by_front, as_perm, carrying}
 use Rattle.requests.specs.Words.{request_of, AsksNothing}
 
 -- what the words of a line ask for
@@ -45,6 +46,16 @@ pub tree_asked : asked (codes "tree --matrix m") ∷
     })) ∷ []
 unfolding tokens_of number_of number_from
 tree_asked = refl
+
+-- the fronts by rising number, where no order of them is given
+pub columns_asked : asked (codes "columns --matrix m") ∷ asked (codes "columns --plan p --matrix m --print perm --iperm q")
+    ∷ asked (codes "columns --matrix m --order o --print text") ∷ asked (codes "columns --matrix m --order o --plan p")
+    ∷ asked (codes "columns --matrix m --print json") ∷ asked (codes "columns --tree t") ∷ []
+    ≡ Some (columns a_matrix None by_front)
+    ∷ Some (columns (record a_matrix { ordering = inverse_named (codes "q") }) (Some (plan_named (codes "p"))) as_perm)
+    ∷ Some (columns a_matrix (Some (order_named (codes "o"))) by_front) ∷ None ∷ None ∷ None ∷ []
+unfolding tokens_of
+columns_asked = refl
 
 pub post_asked : asked (codes "post --tree t") ∷ asked (codes "post --matrix m") ∷ []
     ≡ Some (post (tree_named (codes "t"))) ∷ Some (post (matrix_named a_matrix)) ∷ []
@@ -97,7 +108,8 @@ pub fronts_asked : asked (codes "fronts --matrix m --ordering mindeg --bound 4 -
 unfolding tokens_of number_of number_from
 fronts_asked = refl
 
-pub reduce_asked : asked (codes "reduce --graph g") ≡ Some (reduce (codes "g"))
+pub reduce_asked : asked (codes "reduce --graph g") ∷ asked (codes "reduce --plan p --graph g") ∷ asked (codes "reduce --graph g --order o --plan p") ∷ []
+    ≡ Some (reduce (codes "g")) ∷ Some (carrying (codes "g") (plan_named (codes "p"))) ∷ None ∷ []
 unfolding tokens_of
 reduce_asked = refl
 
@@ -122,23 +134,25 @@ check_of_fences_asked = refl
 pub fence_asked :
     asked (codes "fence --graph g --order o --bound 9") ∷ asked (codes "fence --workflow w --plan p --bound 9 --workers 4")
     ∷ asked (codes "fence --graph g --order o") ∷ asked (codes "fence --graph g --order o --plan p --bound 9") ∷ []
-    ≡ Some (fencing (graph_tasks (codes "g")) (order_named (codes "o")) (record { bound = 9; workers = None }))
-    ∷ Some (fencing (input_tasks a_workflow) (plan_named (codes "p")) (record { bound = 9; workers = Some 4 })) ∷ None ∷ None ∷ []
+    ≡ Some (fencing (graph_tasks (codes "g")) (order_named (codes "o")) (record { bound = 9; workers = None; fewest = false }))
+    ∷ Some (fencing (input_tasks a_workflow) (plan_named (codes "p")) (record { bound = 9; workers = Some 4; fewest = false })) ∷ None ∷ None ∷ []
 unfolding tokens_of number_of number_from
 fence_asked = refl
 
 -- with a bound alone the order is planned
 pub planned_fence_asked :
-    asked (codes "fence --graph g --bound 9") ∷ asked (codes "fence --workers 4 --bound 9 --workflow w") ∷ asked (codes "fence --tree t --bound B") ∷ []
-    ≡ Some (planned_fencing (graph_tasks (codes "g")) (record { bound = 9; workers = None }))
-    ∷ Some (planned_fencing (input_tasks a_workflow) (record { bound = 9; workers = Some 4 })) ∷ None ∷ []
+    asked (codes "fence --graph g --bound 9") ∷ asked (codes "fence --workers 4 --bound 9 --workflow w --fewest yes")
+    ∷ asked (codes "fence --tree t --bound B") ∷ asked (codes "fence --tree t --bound 9 --fewest 2") ∷ []
+    ≡ Some (planned_fencing (graph_tasks (codes "g")) (record { bound = 9; workers = None; fewest = false }))
+    ∷ Some (planned_fencing (input_tasks a_workflow) (record { bound = 9; workers = Some 4; fewest = true })) ∷ None ∷ None ∷ []
 unfolding tokens_of number_of number_from
 planned_fence_asked = refl
 
 -- with none of these the tasks are taken as they stand
 pub standing_asked :
-    asked (codes "fence --graph g") ∷ asked (codes "fence --workers 4 --tree t") ∷ asked (codes "fence --workers 0 --tree t") ∷ []
-    ≡ Some (standing (graph_tasks (codes "g")) None) ∷ Some (standing (input_tasks a_tree) (Some 4)) ∷ None ∷ []
+    asked (codes "fence --graph g") ∷ asked (codes "fence --workers 4 --tree t") ∷ asked (codes "fence --workers 0 --tree t")
+    ∷ asked (codes "fence --tree t --fewest no") ∷ []
+    ≡ Some (standing (graph_tasks (codes "g")) None) ∷ Some (standing (input_tasks a_tree) (Some 4)) ∷ None ∷ None ∷ []
 unfolding tokens_of number_of number_from
 standing_asked = refl
 
@@ -156,10 +170,11 @@ pub nothing_asked :
     ∷ codes "plan --tree t --shape square"
     ∷ codes "check --tree t --plan p --workers 0"
     ∷ codes "tree --matrix m --perm p --ordering natural"
+    ∷ codes "tree --matrix m --perm p --iperm q"
     ∷ codes "demo --kind grid --rows 300 --cols 300"
     ∷ codes "upgrade --tree t --priority r"
     ∷ [])
-    ≡ None ∷ None ∷ None ∷ None ∷ None ∷ None ∷ None ∷ None ∷ None ∷ None ∷ None ∷ []
+    ≡ None ∷ None ∷ None ∷ None ∷ None ∷ None ∷ None ∷ None ∷ None ∷ None ∷ None ∷ None ∷ []
 unfolding tokens_of number_of number_from
 nothing_asked = refl
 
@@ -183,12 +198,15 @@ pub files_of_others :
     ∷ replay (input_tasks a_workflow) (order_named (codes "o"))
     ∷ replay (graph_tasks (codes "g")) (order_named (codes "o"))
     ∷ upgrade (plan_upgrade (codes "p") (Some (codes "r")))
+    ∷ columns (record a_matrix { ordering = inverse_named (codes "q") }) (Some (order_named (codes "o"))) by_front
+    ∷ columns a_matrix None as_perm
     ∷ reduce (codes "g")
+    ∷ carrying (codes "g") (order_named (codes "o"))
     ∷ check_graph (codes "g") (codes "p") 1
     ∷ bounding (codes "g") (Some (codes "o")) 7
     ∷ check_fences (graph_tasks (codes "g")) (codes "f")
-    ∷ fencing (input_tasks a_workflow) (order_named (codes "o")) (record { bound = 9; workers = None })
-    ∷ planned_fencing (input_tasks a_workflow) (record { bound = 9; workers = None })
+    ∷ fencing (input_tasks a_workflow) (order_named (codes "o")) (record { bound = 9; workers = None; fewest = false })
+    ∷ planned_fencing (input_tasks a_workflow) (record { bound = 9; workers = None; fewest = true })
     ∷ standing (input_tasks a_workflow) (Some 4)
     ∷ demo (demos.Grid 2 3)
     ∷ [])
@@ -196,7 +214,10 @@ pub files_of_others :
     ∷ (file workflow_file (codes "w") ∷ file order_file (codes "o") ∷ [])
     ∷ (file shared_graph_file (codes "g") ∷ file order_file (codes "o") ∷ [])
     ∷ (file plan_file (codes "p") ∷ file plan_priority_file (codes "r") ∷ [])
+    ∷ (file (matrix_file (inverse_named (codes "q"))) (codes "m") ∷ file inverse_file (codes "q") ∷ file order_file (codes "o") ∷ [])
+    ∷ (file (matrix_file natural) (codes "m") ∷ [])
     ∷ (file shared_graph_file (codes "g") ∷ [])
+    ∷ (file shared_graph_file (codes "g") ∷ file order_file (codes "o") ∷ [])
     ∷ (file shared_graph_file (codes "g") ∷ file bounded_plan_file (codes "p") ∷ [])
     ∷ (file shared_graph_file (codes "g") ∷ file order_file (codes "o") ∷ [])
     ∷ (file shared_graph_file (codes "g") ∷ file fence_file (codes "f") ∷ [])

@@ -42,14 +42,15 @@ pub fn system_page(
     order: &[u32],
     bound: u64,
     workers: Option<u32>,
+    fewest: bool,
 ) -> Result<Page, AllocError>
     requires { IfSome workers AreWorkers }
-    ensures { IfOk result (λ page. IsFenceAnswer system.now order.now (record { bound = bound; workers = workers }) (answer_of page)) }
+    ensures { IfOk result (λ page. IsFenceAnswer system.now order.now (record { bound = bound; workers = workers; fewest = fewest }) (answer_of page)) }
 {
     certified_fences();
     printed_fences();
     system.keeps();
-    match certificate_along(alloc, system, order, bound, workers) {
+    match certificate_along(alloc, system, order, bound, workers, fewest) {
         Ok(certificate) => certificate_page(alloc, &certificate),
         Err(CertifyingRefusal::Order(fault)) => order_page(alloc, fault),
         Err(CertifyingRefusal::Bound { peak }) => bound_page(alloc, bound, peak),
@@ -66,14 +67,15 @@ fn fence_page(
     ordered: OrderedTasks,
     bound: u64,
     workers: Option<u32>,
+    fewest: bool,
 ) -> Result<Page, AllocError>
     requires { IfSome workers AreWorkers }
     ensures { IfOk result (λ page. IsFenceAnswer (system_of_tasks ordered.tasks) (order_tasks ordered.order)
-        (record { bound = bound; workers = workers }) (answer_of page)) }
+        (record { bound = bound; workers = workers; fewest = fewest }) (answer_of page)) }
 {
     let OrderedTasks { tasks, order } = ordered;
     let system = tasks.into_shared(alloc)?;
-    system_page(alloc, &system, order.numbers(), bound, workers)
+    system_page(alloc, &system, order.numbers(), bound, workers, fewest)
 }
 
 /// The file of fences, with the amounts that certify the bound, or why there is none.
@@ -89,5 +91,5 @@ pub fn report_fence<F: Files>(
     ensures later { (other : List ℕ) → F.faults_of files.old other ≤ F.faults_of files.new other }
 {
     let ordered = judge_ordered_tasks(alloc, files, asked.tasks, asked.source)?;
-    Ok(fence_page(alloc, ordered, asked.bound, asked.workers)?)
+    Ok(fence_page(alloc, ordered, asked.bound, asked.workers, asked.fewest)?)
 }

@@ -22,12 +22,13 @@ fn own_page(
     system: &SharedSystem,
     bound: u64,
     workers: Option<u32>,
+    fewest: bool,
 ) -> Result<Page, AllocError>
     requires { IfSome workers AreWorkers }
-    ensures { IfOk result (λ page. IsPlannedFenceAnswer system.now (record { bound = bound; workers = workers }) (answer_of page)) }
+    ensures { IfOk result (λ page. IsPlannedFenceAnswer system.now (record { bound = bound; workers = workers; fewest = fewest }) (answer_of page)) }
 {
     let plan = plan_graph(alloc, system, DEFAULT_EFFORT)?;
-    system_page(alloc, system, plan.order(), bound, workers)
+    system_page(alloc, system, plan.order(), bound, workers, fewest)
 }
 
 // The same of tasks.
@@ -36,12 +37,13 @@ fn planned_page(
     tasks: Tasks,
     bound: u64,
     workers: Option<u32>,
+    fewest: bool,
 ) -> Result<Page, AllocError>
     requires { IfSome workers AreWorkers }
-    ensures { IfOk result (λ page. IsPlannedFenceAnswer (system_of_tasks tasks) (record { bound = bound; workers = workers }) (answer_of page)) }
+    ensures { IfOk result (λ page. IsPlannedFenceAnswer (system_of_tasks tasks) (record { bound = bound; workers = workers; fewest = fewest }) (answer_of page)) }
 {
     let system = tasks.into_shared(alloc)?;
-    own_page(alloc, &system, bound, workers)
+    own_page(alloc, &system, bound, workers, fewest)
 }
 
 /// The file of fences along the order of a plan, with the amounts that certify the bound, or why there is none: above all that the bound is below
@@ -58,5 +60,5 @@ pub fn report_planned_fence<F: Files>(
     ensures later { (other : List ℕ) → F.faults_of files.old other ≤ F.faults_of files.new other }
 {
     let read = judge_tasks(alloc, files, asked.tasks)?;
-    Ok(planned_page(alloc, read, asked.bound, asked.workers)?)
+    Ok(planned_page(alloc, read, asked.bound, asked.workers, asked.fewest)?)
 }

@@ -47,8 +47,8 @@ fn print_arcs(arcs: &[(u32, u32)], report: &mut Report) -> Result<(), AllocError
     Ok(())
 }
 
-// `refused graph KIND K`, the arcs, `end`
-fn arcs_page(alloc: Global, kind: &str, arcs: &[(u32, u32)]) -> Result<Page, AllocError>
+/// `refused graph KIND K`, the arcs, `end`
+pub(crate) fn arcs_page(alloc: Global, kind: &str, arcs: &[(u32, u32)]) -> Result<Page, AllocError>
     requires { IsTrue (is_token kind.now) }
     ensures { IfOk result (λ page. answer_of page ≡ arcs_answer kind.now arcs.now) }
 {
@@ -93,8 +93,8 @@ fn too_many_page(alloc: Global) -> Result<Page, AllocError>
     line_page(alloc, PageKind::NotSeriesParallel, &words)
 }
 
-// Why a graph of version 2 has no term.
-fn refusal_page(alloc: Global, refusal: &SharedReduceRefusal) -> Result<Page, AllocError>
+/// Why a graph of version 2 has no term.
+pub(crate) fn refusal_page(alloc: Global, refusal: &SharedReduceRefusal) -> Result<Page, AllocError>
     ensures { IfOk result (λ page. IsRefusalAnswer refusal.now (answer_of page)) }
 {
     match refusal {

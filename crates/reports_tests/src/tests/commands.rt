@@ -1,7 +1,7 @@
 //! Each command once, over files that it answers.
 
 use super::{Texts, check_run, files_of};
-use reports::Status::Done;
+use reports::Status::{Done, No};
 use std::test::Fail;
 
 // ---- inputs
@@ -47,7 +47,7 @@ pub const FENCED: &str =
 #[rattlefmt::skip]
 pub const FILES: Texts = &[
     ("t", FIVE), ("o", "1 3 2 4 5\n"), ("p", "5 4 3 2 1\n"), ("m", ARROW), ("q", TURNED), ("g", GRAPH), ("h", CHAIN), ("s", PLAN), ("u", ONE), ("i", IDLE),
-    ("b", BOUNDED), ("z", ZIGZAG), ("w", WORSE), ("x", "1\n"), ("f", FENCED),
+    ("b", BOUNDED), ("z", ZIGZAG), ("w", WORSE), ("x", "1\n"), ("f", FENCED), ("r", "2 1 3\n"), ("k", "1 3 2\n"), ("c", "4 2 1 3\n"),
 ];
 
 // ---- runs
@@ -64,7 +64,11 @@ pub const SEGMENTS: &str = "segments --tree t";
 
 pub const FRONTS: &str = "fronts --matrix m --perm q --bound 4 --workers 2";
 
+pub const COLUMNS: &str = "columns --matrix m --perm q --order r";
+
 pub const REDUCE: &str = "reduce --graph g";
+
+pub const CARRY: &str = "reduce --graph g --order c";
 
 pub const BOUND: &str = "bound --graph i";
 
@@ -97,10 +101,16 @@ pub const OF_FIVE: &str =
 // Both ends of the arrow at once, then its middle.
 pub const ABREAST: &str = "fronts 3\nrounds 2\nused 4\n1 2\n3\n1 3\n2 3\n3 4\nend\n";
 
+// The middle of the arrow has a front with its last end, after those of the other ends: here that of 3 comes first.
+pub const OF_ARROW: &str = "columns 3\n3\n2\n1 4\nend\n";
+
 // Tasks with one arc in and one out are taken out from the last one on: here 3, then 2, beside it, then 4 and 1.
 pub const WORKFLOW: &str =
     "workflow 1\ntasks 4\ndata 0\ndata 6\ndata 2\ntask 3 1\ndata 5\ndata 1\ntask 2 1\npar 2\ndata 0\ntask 0 1\ntask 0 1\nend\n\
     # 1 3\n# 2 2\n# 3 4\n# 4 1\n";
+
+// By these names: after task 1, task 2 runs beside the 6, with its 2 and its 1.
+pub const CARRIED: &str = "peak 14\norder 4\n1\n2\n3\n4\nend\n";
 
 // Nothing runs beside the 12 that are there at the start.
 pub const STILL: &str =
@@ -120,7 +130,11 @@ const ANSWERS: &[(&str, &str)] = &[
     (SPILL, BOTH),
     (SEGMENTS, OF_FIVE),
     (FRONTS, ABREAST),
+    (COLUMNS, OF_ARROW),
+    ("columns --matrix m --ordering mindeg", "columns 3\n2\n3\n1 4\nend\n"),
+    ("columns --matrix m --perm q --order r --print perm", "3\n2\n1\n4\n"),
     (REDUCE, WORKFLOW),
+    (CARRY, CARRIED),
     (BOUND, "bound 12\nneed 0\nend\n"),
     (CHECK_GRAPH, "yes 12 least\n"),
     (PLAN_GRAPH, PLAN_OF_ZIGZAG),
@@ -140,5 +154,21 @@ fn each_command_answers(rt: HostRuntime) -> Result<(), Fail> {
         let mut files = files_of(rt.alloc(), FILES)?;
         check_run(&rt, rt.alloc(), run, &mut files, Done, text)?;
     }
+    Ok(())
+}
+
+// The front of the middle of the arrow comes before one of its children.
+#[test]
+fn a_front_before_its_child(rt: HostRuntime) -> Result<(), Fail> {
+    let run = "columns --matrix m --perm q --order k";
+    let mut files = files_of(rt.alloc(), FILES)?;
+    check_run(
+        &rt,
+        rt.alloc(),
+        run,
+        &mut files,
+        No,
+        "no order 2 too-early\n",
+    )?;
     Ok(())
 }

@@ -1,9 +1,9 @@
 //! Loads and writes that fail, and sinks that are full.
 
 use super::commands::{
-    ABREAST, BOTH, BOUND, CHECK_FENCES, CHECK_GRAPH, FENCE, FENCED, FILES, FRONTS, OF_FIVE,
-    PLAN_GRAPH, PLAN_OF_ZIGZAG, PLANNED_FENCE, PLANNING, REDUCE, REPLAY, SEGMENTS, SIMULATE, SPILL,
-    STANDING, STILL, TIGHT, WORKFLOW,
+    ABREAST, BOTH, BOUND, CARRIED, CARRY, CHECK_FENCES, CHECK_GRAPH, COLUMNS, FENCE, FENCED, FILES,
+    FRONTS, OF_ARROW, OF_FIVE, PLAN_GRAPH, PLAN_OF_ZIGZAG, PLANNED_FENCE, PLANNING, REDUCE, REPLAY,
+    SEGMENTS, SIMULATE, SPILL, STANDING, STILL, TIGHT, WORKFLOW,
 };
 use super::{check_run, files_of, run_into};
 use mp_outside::MemSink;
@@ -25,6 +25,12 @@ const OF_MATRIX: u64 = 23 + 1;
 const OF_PERM: u64 = 3 + 1;
 
 const OF_GRAPH: u64 = 25 + 1;
+
+// Of an order of its three fronts there are 6 bytes.
+const OF_ORDER: u64 = 2 + 1;
+
+// Of an order of the tasks of the term of the graph there are 8 bytes.
+const OF_CARRIED: u64 = 3 + 1;
 
 // Of the graph without tasks there are 33 bytes, of its plan 43.
 const OF_IDLE: u64 = 11 + 1;
@@ -51,7 +57,9 @@ const RUNS: &[(&str, u64, &str)] = &[
     (SPILL, OF_TREE + OF_NUMBERS, BOTH),
     (SEGMENTS, OF_TREE, OF_FIVE),
     (FRONTS, OF_MATRIX + OF_PERM, ABREAST),
+    (COLUMNS, OF_MATRIX + OF_PERM + OF_ORDER, OF_ARROW),
     (REDUCE, OF_GRAPH, WORKFLOW),
+    (CARRY, OF_GRAPH + OF_CARRIED, CARRIED),
     (BOUND, OF_IDLE, "bound 12\nneed 0\nend\n"),
     (CHECK_GRAPH, OF_IDLE + OF_BOUNDED, "yes 12 least\n"),
     (PLAN_GRAPH, OF_ZIGZAG + OF_WORSE, PLAN_OF_ZIGZAG),

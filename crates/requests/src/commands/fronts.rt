@@ -5,7 +5,7 @@ ghost use Rattle.requests.specs.Words.{fronts_of};
 ghost use Rattle.requests.specs.Request.{IsInRange};
 ghost use Rattle.requests.specs.RequestViews.{request_view};
 
-use crate::request::{OrderedMatrix, Request, number_given, number_up_to, ordering_of};
+use crate::request::{OrderedMatrix, Request, number_given, number_up_to, ordering_given};
 use command_line::Line;
 use limits::MOST_WORKERS;
 
@@ -25,7 +25,7 @@ pub fn fronts_of<'a>(line: &Line<'a>) -> Option<Request<'a>>
     ensures range { IfSome result (λ request. IsInRange (request_view request)) }
 {
     let name = line.value("matrix")?;
-    let ordering = ordering_of(line.value("perm"), line.value("ordering"))?;
+    let ordering = ordering_given(line)?;
     let bound = number_given(line.value("bound"))?;
     let workers = number_up_to(u64::from(MOST_WORKERS), line.value("workers"))?;
     let matrix = OrderedMatrix { name, ordering };

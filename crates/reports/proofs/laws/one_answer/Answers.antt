@@ -39,6 +39,7 @@ returns c =
       schedule = c.schedule_law.ensures.one;
       demos = c.one_demo.ensures.one;
       fronts = c.one_fronts.ensures.one;
+      columns = c.one_columns.ensures.one;
       upgrades = c.one_upgrade.ensures.one;
       numbered = c.one_input.ensures.numbered;
       stairs = c.one_staircase.ensures.one_of_all;

@@ -10,6 +10,10 @@ returns c =
       matrices = record { not_both = c.exactly_one-3.ensures.not_both; one_refusal = c.exactly_one-3.ensures.one_refusal };
       orders = record { not_both = c.exactly_one_order.ensures.not_both; one_refusal = c.exactly_one_order.ensures.one_refusal };
       perms = λ n. record { not_both = c.exactly_one_perm.ensures.not_both n; one_refusal = c.exactly_one_perm.ensures.one_refusal n };
+      inverses = λ n. record {
+        not_both = c.exactly_one_inverse.ensures.not_both n;
+        one_refusal = c.exactly_one_inverse.ensures.one_refusal n;
+      };
       plans = record { not_both = c.exactly_one-4.ensures.not_both; one_refusal = c.exactly_one-4.ensures.one_refusal };
       bounded_plans = record { not_both = c.exactly_one-6.ensures.not_both; one_refusal = c.exactly_one-6.ensures.one_refusal };
       fences = record { not_both = c.exactly_one-7.ensures.not_both; one_refusal = c.exactly_one-7.ensures.one_refusal };

@@ -7,7 +7,7 @@ use Rattle.shared_graph_files.specs.EitherVersion.{StatesAs}
 use Rattle.reports.specs.Reduce.{are_second}
 use Rattle.reports.specs.Promises.{done_answer}
 use Rattle.requests.specs.Request.{Request, replay, tree, post, check, planning, simulate, demo, upgrade, spill, segments, fronts, reduce}
-use Rattle.requests.specs.Request.{check_fences, check_graph, plan_graph, bounding, fencing, planned_fencing, standing}
+use Rattle.requests.specs.Request.{check_fences, check_graph, plan_graph, bounding, fencing, planned_fencing, standing, columns, carrying}
 use Rattle.judging.specs.declared.status.Status.TheVariants.{Done}
 use Rattle.reports.proofs.RunLemmas.{report_when_done, report_of_rest}
 use Rattle.reports.proofs.SoundAnswer.{certified, best, simulated}
@@ -33,6 +33,9 @@ returns c (replay input source) texts answer possible is = λ done.
     done_report (replay input source) texts answer (report_when_done (replay input source) texts answer is done) done
 returns c (tree matrix) texts answer possible is =
     λ done. done_report (tree matrix) texts answer (report_when_done (tree matrix) texts answer is done) done
+returns c (columns matrix source format) texts answer possible is = λ done.
+    c.one_columns.ensures.said matrix source format texts answer.text
+    (done_report (columns matrix source format) texts answer (report_when_done (columns matrix source format) texts answer is done) done)
 returns c (post input) texts answer possible is =
     λ done. done_report (post input) texts answer (report_when_done (post input) texts answer is done) done
 returns c (check input plan workers) texts answer possible is = λ done.
@@ -108,6 +111,8 @@ returns c (reduce name) texts answer possible is =
           (c.names_law-2.ensures.within system names (term_of positions) is term);
     }) texts answer (are_second texts) refl
     (report_when_done (reduce name) texts answer is) (report_of_rest (reduce name) texts answer is)
+returns c (carrying graph source) texts answer possible is = λ done.
+    c.carried_orders.ensures source texts answer (report_when_done (carrying graph source) texts answer is done) done
 returns c (bounding graph order effort) texts answer possible is = λ done.
     bounded c.read_law-3.ensures c.evidence_law.ensures.bound order texts answer
     (report_when_done (bounding graph order effort) texts answer is done) done

@@ -7,5 +7,5 @@ pub returns-in-Ok : goal.returns-in-Ok
 returns-in-Ok c =
     IfOk-weaker c.certificate_page.result _ _
     (λ page is. fence_told c.certified_fences.ensures c.printed_fences.ensures c.args.system.now c.args.order.now
-    (record { bound = c.args.bound; workers = c.args.workers }) c.in-Ok.certificate (answer_of page) c.keeps.ensures c.ranges.bound.fits
+    (record { bound = c.args.bound; workers = c.args.workers; fewest = c.args.fewest }) c.in-Ok.certificate (answer_of page) c.keeps.ensures c.ranges.bound.fits
     c.requires c.in-Ok.ensures.along c.in-Ok.ensures.certified c.in-Ok.ensures.asked is) c.certificate_page.ensures

@@ -9,6 +9,6 @@ returns c =
     IfOk-weaker c.system_page.result _ _ (λ page is. (
       c.in_ok-plan.plan,
       c.in_ok-plan.ensures.plan,
-      subst (λ (order : List ℕ). IsFenceAnswer c.args.system.now order (record { bound = c.args.bound; workers = c.args.workers }) (answer_of page))
+      subst (λ (order : List ℕ). IsFenceAnswer c.args.system.now order (record { bound = c.args.bound; workers = c.args.workers; fewest = c.args.fewest }) (answer_of page))
           c.order.ensures.value is,
     )) c.system_page.ensures
