@@ -57,8 +57,8 @@ FILES = (
     Format("plan", "crates/plan_files/src/kind.rt", "PlanKind", "crates/plan_files/specs/Kinds.antt", "word_of", "Plan files"),
     Format("fences", "crates/fence_files/src/kind.rt", "FenceKind", "crates/fence_files/specs/Kinds.antt", "word_of", "Fence files"),
 )
-# A priority file is judged as a permutation file.
-SAME_KINDS = {"priority": "perm"}
+# A priority file is judged as a permutation file, and so is one of the inverse.
+SAME_KINDS = {"priority": "perm", "iperm": "perm"}
 
 # How a limit is written, and the numbers so written that are widths of C's types and no limits.
 WRITTEN = re.compile(r"(?<![\w,])(?:\d{1,3}(?:,\d{3})+|2\^\d+)(?![\w,]\d)")
@@ -313,10 +313,15 @@ class Facts:
     # ---- commands
 
     def values(self) -> Dict[str, str]:
-        """What options take, as the program reads them: `a|b`, or `LEAST to MOST`."""
+        """What options take, as the program reads them: `a|b`, or `LEAST to MOST`. Of two words in the file of a command by its name too: `plan print`."""
         files = [self.top / "crates/requests/src/request.rt", *sorted((self.top / "crates/requests/src/commands").glob("*.rt"))]
-        code = "".join(file.read_text(encoding="utf-8") for file in files)
-        said = {name: f"{first}|{second}" for name, first, second in re.findall(r'is_second\(line\.value\("(\w+)"\), "(\w+)", "(\w+)"\)', code)}
+        codes = {file: file.read_text(encoding="utf-8") for file in files}
+        code = "".join(codes.values())
+        said = {}
+        for file, text in codes.items():
+            of = "" if file.stem == "request" else f"{file.stem} "
+            for name, first, second in re.findall(r'is_second\(line\.value\("(\w+)"\), "(\w+)", "(\w+)"\)', text):
+                said[f"{of}{name}"] = f"{first}|{second}"
         for option, function in (("ordering", "fn ordering_named"), ("kind", "fn made_of")):
             said[option] = "|".join(re.findall(r'^ +"(\w+)" =>', part_of(code, function, "\n}"), re.M))
         for limit, option in re.findall(r'number_up_to\(MOST_(\w+), line\.value\("(\w+)"\)\)', code):
@@ -333,9 +338,14 @@ class Facts:
         shapes = re.findall(r'name: "(\w+)",\s*options: ([^}]*)\}', listed)
         wanted = {name: " ".join(sorted(re.findall(r'"(\w+)"', options))) for name, options in shapes}
         yield place, {command.name: " ".join(sorted(option.name for option in command.options)) for command in table.COMMANDS}, wanted
-        options = [option for command in table.COMMANDS for option in command.options if option.value != table.FILE]
         values = self.values()
-        yield place, {option.name: option.value if option.words() else f"{option.least} to {option.most}" for option in options}, values
+        found = {}
+        for command in table.COMMANDS:
+            for option in command.options:
+                name = f"{command.name} {option.name}"
+                if option.value != table.FILE:
+                    found[name if name in values else option.name] = option.value if option.words() else f"{option.least} to {option.most}"
+        yield place, found, values
         ranges = self.module("fuzz.formats").RANGES
         yield "tools/fuzz/formats.py", {name: f"{least} to {most}" for name, (least, most) in ranges.items()}, {name: it for name, it in values.items() if " to " in it}
         yield place, {number: number for number in table.STATUSES}, {number: number for number in self.said.values()}

@@ -44,11 +44,12 @@ WORKFLOW = Option("workflow", FILE, "a workflow file: series-parallel tasks and 
 GRAPH = Option("graph", FILE, "a task graph file: tasks, and the data that go from one to another")
 MATRIX = Option("matrix", FILE, "a matrix in Matrix Market's coordinate format; its pattern is taken, made symmetric")
 PERM = Option("perm", FILE, "its rows are eliminated in this order: the k-th number is the row that goes k-th, from 1")
+IPERM = Option("iperm", FILE, "the inverse of such an order, as METIS writes it: the v-th number is the place of row v, from 0 where a 0 stands in it, else from 1")
 ORDERING = Option("ordering", "natural|mindeg", "in the order of the file, or by minimum degree (at most 50,000 rows)")
 SHAPE = Option("shape", "triangle|square", "count the entries of one triangle of each front, or of both")
 AMALGAMATE = Option("amalgamate", "Z", "merge fronts where that adds at most Z zeros, Z up to 2^40; none without it", 0, 2**40)
 INPLACE = Option("inplace", "no|yes", "with yes a front is assembled in the place of its greatest child's block")
-ORDER = Option("order", FILE, "an order file: the numbers of the tasks, in order, from 1")
+ORDER = Option("order", FILE, "an order file: the numbers of the tasks, in order, from 1; or what `post` prints")
 PLAN = Option("plan", FILE, "a plan file, as `plan` prints it; its order is taken")
 JUDGED = Option("plan", FILE, "the plan file that is judged")
 FENCES = Option("fences", FILE, "the fence file that is judged, as `fence` prints it")
@@ -58,7 +59,7 @@ WORKERS = Option("workers", "W", "how many workers, 1 to 4096", 1, 4096)
 EFFORT = Option("effort", "E", "how many steps a search may take, some 100 million a second; 1,000,000,000 without it")
 EFFORT_BY_TASKS = Option("effort", "E", "how many steps a search of a thousand tasks may take, of more tasks more, up to 15 E; 1,000,000,000 without it")
 
-FRONT_OPTIONS = (PERM, ORDERING, SHAPE, AMALGAMATE, INPLACE)
+FRONT_OPTIONS = (PERM, IPERM, ORDERING, SHAPE, AMALGAMATE, INPLACE)
 MATRIX_INPUT = (MATRIX, *FRONT_OPTIONS)
 TREE_INPUT = (TREE, *MATRIX_INPUT)
 INPUT = (TREE, WORKFLOW, *MATRIX_INPUT)
@@ -66,9 +67,10 @@ INPUT = (TREE, WORKFLOW, *MATRIX_INPUT)
 INPUTS = {
     "INPUT": ("TREE, or `--workflow FILE`", (WORKFLOW,)),
     "TREE": ("`--tree FILE`, or MATRIX", (TREE,)),
-    "MATRIX": ("`--matrix FILE`, with at most one of `--perm` and `--ordering`, and any of the others", MATRIX_INPUT),
+    "MATRIX": ("`--matrix FILE`, with at most one of `--perm`, `--iperm` and `--ordering`, and any of the others", MATRIX_INPUT),
 }
-NOT_BOTH = ("perm", "ordering")
+# Of each of these groups, with `|` between, at most one is given, whichever the command.
+AT_MOST_ONE = ("perm|iperm|ordering", "order|plan")
 OF_A_MATRIX = tuple((option.name, "matrix") for option in FRONT_OPTIONS)
 
 # How a run ends: what is written, and where to look.
@@ -154,12 +156,30 @@ COMMANDS: Tuple[Command, ...] = (
         example=("tree --matrix examples/arrow.mtx --ordering mindeg", "tree 1\nnodes 3\n3 1 2 1\n3 1 2 1\n0 0 3 2\nend"),
     ),
     Command(
+        name="columns",
+        purpose="the columns of every front of a matrix, by the numbers of its file",
+        usage="MATRIX [--order FILE | --plan FILE] [--print text|perm]",
+        options=(
+            *MATRIX_INPUT,
+            Option("order", FILE, "an order file of the fronts, or what `post` prints: they come in this order; by rising number without it"),
+            Option("plan", FILE, "a plan file, as `plan` prints it: the fronts come in its order"),
+            Option("print", "text|perm", "print a line for each front, or all columns as a permutation file"),
+        ),
+        one_of=("matrix",),
+        only_with=(),
+        prints="`columns N`, a line for each front with its columns, `end`. One after the other they are an order of elimination with the same fill and, where "
+        "none were merged, the same fronts: `--print perm` prints that, one column on a line, as `--perm` and solvers take it",
+        statuses={1: "the order is no traversal of the fronts"},
+        example=("columns --matrix examples/arrow.mtx --ordering mindeg", "columns 3\n2\n3\n1 4\nend"),
+    ),
+    Command(
         name="fronts",
         purpose="the rows of every front of a matrix",
-        usage="--matrix FILE [--perm FILE | --ordering natural|mindeg] --bound B --workers W",
+        usage="--matrix FILE [--perm FILE | --iperm FILE | --ordering natural|mindeg] --bound B --workers W",
         options=(
             MATRIX,
             PERM,
+            IPERM,
             ORDERING,
             Option("bound", "B", "at most B rows are held at once"),
             Option("workers", "W", "how many threads, 1 to 4096; where fronts are small one is fastest", 1, 4096),
@@ -187,7 +207,7 @@ COMMANDS: Tuple[Command, ...] = (
     Command(
         name="fence",
         purpose="fences that keep every parallel run within a bound on memory, or what no run passes without any",
-        usage="(INPUT | --graph FILE) [--bound B [--order FILE | --plan FILE]] [--workers W]",
+        usage="(INPUT | --graph FILE) [--bound B [--order FILE | --plan FILE] [--fewest no|yes]] [--workers W]",
         options=(
             *INPUT,
             GRAPH,
@@ -195,9 +215,10 @@ COMMANDS: Tuple[Command, ...] = (
             PLAN,
             BOUND,
             Option("workers", "W", "for runs on at most W workers, 1 to 4096; on any number of them without it", 1, 4096),
+            Option("fewest", "no|yes", "with yes fences are left out that the others can do without"),
         ),
         one_of=("tree|workflow|matrix|graph",),
-        only_with=(*OF_A_MATRIX, ("order", "bound"), ("plan", "bound")),
+        only_with=(*OF_A_MATRIX, ("order", "bound"), ("plan", "bound"), ("fewest", "bound")),
         prints="a fence file: each fence is a line `FROM TO`, by which task TO waits for task FROM, or for all readers of an item. From its amounts "
         "follows that no run on so many workers that keeps to the fences passes the bound, whatever starts the tasks, and however long they take; "
         "and none comes to a stop. With a bound and no order, the order is planned, as `plan` does. Without a bound, the file has one that no run passes as "
@@ -231,12 +252,17 @@ COMMANDS: Tuple[Command, ...] = (
     Command(
         name="reduce",
         purpose="the series-parallel workflow of a task graph",
-        usage="--graph FILE",
-        options=(GRAPH,),
+        usage="--graph FILE [--order FILE | --plan FILE]",
+        options=(
+            GRAPH,
+            Option("order", FILE, "an order file of the workflow's tasks: it is printed by the tasks of the graph, in place of the workflow"),
+            Option("plan", FILE, "a plan file of the workflow; its order is taken"),
+        ),
         one_of=("graph",),
         only_with=(),
-        prints="a workflow file, with a line `# K NAME` for each task: task K is task NAME of the graph, or a join if there is none; or the arcs, or the item, in the way",
-        statuses={9: "the graph is not series-parallel, or an item has several readers and none after all the others"},
+        prints="a workflow file, with a line `# K NAME` for each task: task K is task NAME of the graph, or a join if there is none. With an order of its tasks, "
+        "that order by the tasks of the graph, as `post` prints one: `peak P`, `order N`, N lines with one task each, `end`. Or the arcs, or the item, in the way",
+        statuses={1: f"{NO_TRAVERSAL} of the workflow", 9: "the graph is not series-parallel, or an item has several readers and none after all the others"},
         example=("reduce --graph examples/four.graph | tail -n 4", "# 1 3\n# 2 2\n# 3 4\n# 4 1"),
     ),
     Command(

@@ -1,33 +1,35 @@
 # Sourced by tools/terminal.sh, and by nothing else. Made by tools/make_help.py of tools/commands.py.
-commands="plan check replay post tree fronts simulate fence spill segments reduce bound upgrade demo"
+commands="plan check replay post tree columns fronts simulate fence spill segments reduce bound upgrade demo"
 declare -A usage_of=(
     [plan]='[--print text|json] (INPUT | --graph FILE [--order FILE] [--effort E])'
     [check]='(INPUT | --graph FILE) (--plan FILE [--workers W] | --fences FILE)'
     [replay]='(INPUT | --graph FILE) (--order FILE | --plan FILE)'
     [post]=TREE
     [tree]=MATRIX
-    [fronts]='--matrix FILE [--perm FILE | --ordering natural|mindeg] --bound B --workers W'
+    [columns]='MATRIX [--order FILE | --plan FILE] [--print text|perm]'
+    [fronts]='--matrix FILE [--perm FILE | --iperm FILE | --ordering natural|mindeg] --bound B --workers W'
     [simulate]='(INPUT | --graph FILE) (--order FILE | --plan FILE) --bound B --workers W [--priority FILE]'
-    [fence]='(INPUT | --graph FILE) [--bound B [--order FILE | --plan FILE]] [--workers W]'
+    [fence]='(INPUT | --graph FILE) [--bound B [--order FILE | --plan FILE] [--fewest no|yes]] [--workers W]'
     [spill]='(INPUT | --graph FILE) (--order FILE | --plan FILE) --bound B'
     [segments]=INPUT
-    [reduce]='--graph FILE'
+    [reduce]='--graph FILE [--order FILE | --plan FILE]'
     [bound]='--graph FILE [--order FILE] [--effort E]'
     [upgrade]='(--tree FILE | --workflow FILE | --graph FILE | --plan FILE [--priority FILE])'
     [demo]='(--seed S --tasks N [--kind tree|workflow] | --kind grid --rows R --cols C)'
 )
 declare -A options_of=(
-    [plan]='tree workflow matrix perm ordering shape amalgamate inplace graph order effort print'
-    [check]='tree workflow matrix perm ordering shape amalgamate inplace graph plan workers fences'
-    [replay]='tree workflow matrix perm ordering shape amalgamate inplace graph order plan'
-    [post]='tree matrix perm ordering shape amalgamate inplace'
-    [tree]='matrix perm ordering shape amalgamate inplace'
-    [fronts]='matrix perm ordering bound workers'
-    [simulate]='tree workflow matrix perm ordering shape amalgamate inplace graph order plan bound workers priority'
-    [fence]='tree workflow matrix perm ordering shape amalgamate inplace graph order plan bound workers'
-    [spill]='tree workflow matrix perm ordering shape amalgamate inplace graph order plan bound'
-    [segments]='tree workflow matrix perm ordering shape amalgamate inplace'
-    [reduce]=graph
+    [plan]='tree workflow matrix perm iperm ordering shape amalgamate inplace graph order effort print'
+    [check]='tree workflow matrix perm iperm ordering shape amalgamate inplace graph plan workers fences'
+    [replay]='tree workflow matrix perm iperm ordering shape amalgamate inplace graph order plan'
+    [post]='tree matrix perm iperm ordering shape amalgamate inplace'
+    [tree]='matrix perm iperm ordering shape amalgamate inplace'
+    [columns]='matrix perm iperm ordering shape amalgamate inplace order plan print'
+    [fronts]='matrix perm iperm ordering bound workers'
+    [simulate]='tree workflow matrix perm iperm ordering shape amalgamate inplace graph order plan bound workers priority'
+    [fence]='tree workflow matrix perm iperm ordering shape amalgamate inplace graph order plan bound workers fewest'
+    [spill]='tree workflow matrix perm iperm ordering shape amalgamate inplace graph order plan bound'
+    [segments]='tree workflow matrix perm iperm ordering shape amalgamate inplace'
+    [reduce]='graph order plan'
     [bound]='graph order effort'
     [upgrade]='tree workflow graph plan priority'
     [demo]='kind seed tasks rows cols'
@@ -38,6 +40,7 @@ declare -A one_of=(
     [replay]='tree|workflow|matrix|graph order|plan'
     [post]='tree|matrix'
     [tree]=matrix
+    [columns]=matrix
     [fronts]='matrix bound workers'
     [simulate]='tree|workflow|matrix|graph order|plan bound workers'
     [fence]='tree|workflow|matrix|graph'
@@ -49,26 +52,29 @@ declare -A one_of=(
     [demo]='seed|rows'
 )
 declare -A only_with=(
-    [plan]='perm:matrix ordering:matrix shape:matrix amalgamate:matrix inplace:matrix order:graph effort:graph'
-    [check]='perm:matrix ordering:matrix shape:matrix amalgamate:matrix inplace:matrix workers:plan'
-    [replay]='perm:matrix ordering:matrix shape:matrix amalgamate:matrix inplace:matrix'
-    [post]='perm:matrix ordering:matrix shape:matrix amalgamate:matrix inplace:matrix'
+    [plan]='perm:matrix iperm:matrix ordering:matrix shape:matrix amalgamate:matrix inplace:matrix order:graph effort:graph'
+    [check]='perm:matrix iperm:matrix ordering:matrix shape:matrix amalgamate:matrix inplace:matrix workers:plan'
+    [replay]='perm:matrix iperm:matrix ordering:matrix shape:matrix amalgamate:matrix inplace:matrix'
+    [post]='perm:matrix iperm:matrix ordering:matrix shape:matrix amalgamate:matrix inplace:matrix'
     [tree]=''
+    [columns]=''
     [fronts]=''
-    [simulate]='perm:matrix ordering:matrix shape:matrix amalgamate:matrix inplace:matrix'
-    [fence]='perm:matrix ordering:matrix shape:matrix amalgamate:matrix inplace:matrix order:bound plan:bound'
-    [spill]='perm:matrix ordering:matrix shape:matrix amalgamate:matrix inplace:matrix'
-    [segments]='perm:matrix ordering:matrix shape:matrix amalgamate:matrix inplace:matrix'
+    [simulate]='perm:matrix iperm:matrix ordering:matrix shape:matrix amalgamate:matrix inplace:matrix'
+    [fence]='perm:matrix iperm:matrix ordering:matrix shape:matrix amalgamate:matrix inplace:matrix order:bound plan:bound fewest:bound'
+    [spill]='perm:matrix iperm:matrix ordering:matrix shape:matrix amalgamate:matrix inplace:matrix'
+    [segments]='perm:matrix iperm:matrix ordering:matrix shape:matrix amalgamate:matrix inplace:matrix'
     [reduce]=''
     [bound]=''
     [upgrade]=priority:plan
     [demo]='kind=grid:rows rows:kind=grid cols:rows rows:cols tasks:seed seed:tasks'
 )
+at_most_one="perm|iperm|ordering order|plan"
 declare -A value_of=(
     [tree]=FILE
     [workflow]=FILE
     [matrix]=FILE
     [perm]=FILE
+    [iperm]=FILE
     [ordering]='natural|mindeg'
     [shape]='triangle|square'
     [amalgamate]=Z
@@ -82,11 +88,13 @@ declare -A value_of=(
     [fences]=FILE
     [bound]=B
     [priority]=FILE
+    [fewest]='no|yes'
     [kind]='tree|workflow|grid'
     [seed]=S
     [tasks]=N
     [rows]=R
     [cols]=C
+    [columns.print]='text|perm'
 )
 declare -A range_of=(
     [amalgamate]='0 1099511627776'
@@ -116,6 +124,9 @@ usage: memplan plan [--print text|json] (INPUT | --graph FILE [--order FILE]
                              pattern is taken, made symmetric
   --perm FILE                its rows are eliminated in this order: the k-th
                              number is the row that goes k-th, from 1
+  --iperm FILE               the inverse of such an order, as METIS writes it:
+                             the v-th number is the place of row v, from 0
+                             where a 0 stands in it, else from 1
   --ordering natural|mindeg  in the order of the file, or by minimum degree (at
                              most 50,000 rows)
   --shape triangle|square    count the entries of one triangle of each front,
@@ -151,8 +162,8 @@ usage: memplan check (INPUT | --graph FILE) (--plan FILE [--workers W] |
 --fences FILE)
 INPUT is TREE, or --workflow FILE
 TREE is --tree FILE, or MATRIX
-MATRIX is --matrix FILE, with at most one of --perm and --ordering, and any of
-the others
+MATRIX is --matrix FILE, with at most one of --perm, --iperm and --ordering,
+and any of the others
 
   --tree FILE                a tree file: tasks of which each leaves one block
                              to its parent, as fronts do
@@ -162,6 +173,9 @@ the others
                              pattern is taken, made symmetric
   --perm FILE                its rows are eliminated in this order: the k-th
                              number is the row that goes k-th, from 1
+  --iperm FILE               the inverse of such an order, as METIS writes it:
+                             the v-th number is the place of row v, from 0
+                             where a 0 stands in it, else from 1
   --ordering natural|mindeg  in the order of the file, or by minimum degree (at
                              most 50,000 rows)
   --shape triangle|square    count the entries of one triangle of each front,
@@ -194,8 +208,8 @@ memplan replay: the peak of an order
 usage: memplan replay (INPUT | --graph FILE) (--order FILE | --plan FILE)
 INPUT is TREE, or --workflow FILE
 TREE is --tree FILE, or MATRIX
-MATRIX is --matrix FILE, with at most one of --perm and --ordering, and any of
-the others
+MATRIX is --matrix FILE, with at most one of --perm, --iperm and --ordering,
+and any of the others
 
   --tree FILE                a tree file: tasks of which each leaves one block
                              to its parent, as fronts do
@@ -205,6 +219,9 @@ the others
                              pattern is taken, made symmetric
   --perm FILE                its rows are eliminated in this order: the k-th
                              number is the row that goes k-th, from 1
+  --iperm FILE               the inverse of such an order, as METIS writes it:
+                             the v-th number is the place of row v, from 0
+                             where a 0 stands in it, else from 1
   --ordering natural|mindeg  in the order of the file, or by minimum degree (at
                              most 50,000 rows)
   --shape triangle|square    count the entries of one triangle of each front,
@@ -216,7 +233,7 @@ the others
   --graph FILE               a task graph file: tasks, and the data that go
                              from one to another
   --order FILE               an order file: the numbers of the tasks, in order,
-                             from 1
+                             from 1; or what post prints
   --plan FILE                a plan file, as plan prints it; its order is taken
 
 Prints peak PEAK, or the first place at which the order fails. Status 1: the
@@ -232,8 +249,8 @@ memplan post: the best postorder of a tree, and its peak
 
 usage: memplan post TREE
 TREE is --tree FILE, or MATRIX
-MATRIX is --matrix FILE, with at most one of --perm and --ordering, and any of
-the others
+MATRIX is --matrix FILE, with at most one of --perm, --iperm and --ordering,
+and any of the others
 
   --tree FILE                a tree file: tasks of which each leaves one block
                              to its parent, as fronts do
@@ -241,6 +258,9 @@ the others
                              pattern is taken, made symmetric
   --perm FILE                its rows are eliminated in this order: the k-th
                              number is the row that goes k-th, from 1
+  --iperm FILE               the inverse of such an order, as METIS writes it:
+                             the v-th number is the place of row v, from 0
+                             where a 0 stands in it, else from 1
   --ordering natural|mindeg  in the order of the file, or by minimum degree (at
                              most 50,000 rows)
   --shape triangle|square    count the entries of one triangle of each front,
@@ -266,13 +286,16 @@ END
 memplan tree: the tree of fronts of a matrix
 
 usage: memplan tree MATRIX
-MATRIX is --matrix FILE, with at most one of --perm and --ordering, and any of
-the others
+MATRIX is --matrix FILE, with at most one of --perm, --iperm and --ordering,
+and any of the others
 
   --matrix FILE              a matrix in Matrix Market's coordinate format; its
                              pattern is taken, made symmetric
   --perm FILE                its rows are eliminated in this order: the k-th
                              number is the row that goes k-th, from 1
+  --iperm FILE               the inverse of such an order, as METIS writes it:
+                             the v-th number is the place of row v, from 0
+                             where a 0 stands in it, else from 1
   --ordering natural|mindeg  in the order of the file, or by minimum degree (at
                              most 50,000 rows)
   --shape triangle|square    count the entries of one triangle of each front,
@@ -294,17 +317,65 @@ nodes 3
 end
 END
             ;;
-        fronts)
+        columns)
             cat <<'END'
-memplan fronts: the rows of every front of a matrix
+memplan columns: the columns of every front of a matrix, by the numbers of its
+file
 
-usage: memplan fronts --matrix FILE [--perm FILE | --ordering natural|mindeg]
---bound B --workers W
+usage: memplan columns MATRIX [--order FILE | --plan FILE] [--print text|perm]
+MATRIX is --matrix FILE, with at most one of --perm, --iperm and --ordering,
+and any of the others
 
   --matrix FILE              a matrix in Matrix Market's coordinate format; its
                              pattern is taken, made symmetric
   --perm FILE                its rows are eliminated in this order: the k-th
                              number is the row that goes k-th, from 1
+  --iperm FILE               the inverse of such an order, as METIS writes it:
+                             the v-th number is the place of row v, from 0
+                             where a 0 stands in it, else from 1
+  --ordering natural|mindeg  in the order of the file, or by minimum degree (at
+                             most 50,000 rows)
+  --shape triangle|square    count the entries of one triangle of each front,
+                             or of both
+  --amalgamate Z             merge fronts where that adds at most Z zeros, Z up
+                             to 2^40; none without it
+  --inplace no|yes           with yes a front is assembled in the place of its
+                             greatest child's block
+  --order FILE               an order file of the fronts, or what post prints:
+                             they come in this order; by rising number without
+                             it
+  --plan FILE                a plan file, as plan prints it: the fronts come in
+                             its order
+  --print text|perm          print a line for each front, or all columns as a
+                             permutation file
+
+Prints columns N, a line for each front with its columns, end. One after the
+other they are an order of elimination with the same fill and, where none were
+merged, the same fronts: --print perm prints that, one column on a line, as
+--perm and solvers take it. Status 1: the order is no traversal of the fronts.
+
+$ memplan columns --matrix examples/arrow.mtx --ordering mindeg
+columns 3
+2
+3
+1 4
+end
+END
+            ;;
+        fronts)
+            cat <<'END'
+memplan fronts: the rows of every front of a matrix
+
+usage: memplan fronts --matrix FILE [--perm FILE | --iperm FILE | --ordering
+natural|mindeg] --bound B --workers W
+
+  --matrix FILE              a matrix in Matrix Market's coordinate format; its
+                             pattern is taken, made symmetric
+  --perm FILE                its rows are eliminated in this order: the k-th
+                             number is the row that goes k-th, from 1
+  --iperm FILE               the inverse of such an order, as METIS writes it:
+                             the v-th number is the place of row v, from 0
+                             where a 0 stands in it, else from 1
   --ordering natural|mindeg  in the order of the file, or by minimum degree (at
                              most 50,000 rows)
   --bound B                  at most B rows are held at once
@@ -335,8 +406,8 @@ usage: memplan simulate (INPUT | --graph FILE) (--order FILE | --plan FILE)
 --bound B --workers W [--priority FILE]
 INPUT is TREE, or --workflow FILE
 TREE is --tree FILE, or MATRIX
-MATRIX is --matrix FILE, with at most one of --perm and --ordering, and any of
-the others
+MATRIX is --matrix FILE, with at most one of --perm, --iperm and --ordering,
+and any of the others
 
   --tree FILE                a tree file: tasks of which each leaves one block
                              to its parent, as fronts do
@@ -346,6 +417,9 @@ the others
                              pattern is taken, made symmetric
   --perm FILE                its rows are eliminated in this order: the k-th
                              number is the row that goes k-th, from 1
+  --iperm FILE               the inverse of such an order, as METIS writes it:
+                             the v-th number is the place of row v, from 0
+                             where a 0 stands in it, else from 1
   --ordering natural|mindeg  in the order of the file, or by minimum degree (at
                              most 50,000 rows)
   --shape triangle|square    count the entries of one triangle of each front,
@@ -357,7 +431,7 @@ the others
   --graph FILE               a task graph file: tasks, and the data that go
                              from one to another
   --order FILE               an order file: the numbers of the tasks, in order,
-                             from 1
+                             from 1; or what post prints
   --plan FILE                a plan file, as plan prints it; its order is taken
   --bound B                  the memory that there is, in the units of the
                              input
@@ -380,11 +454,11 @@ memplan fence: fences that keep every parallel run within a bound on memory, or
 what no run passes without any
 
 usage: memplan fence (INPUT | --graph FILE) [--bound B [--order FILE | --plan
-FILE]] [--workers W]
+FILE] [--fewest no|yes]] [--workers W]
 INPUT is TREE, or --workflow FILE
 TREE is --tree FILE, or MATRIX
-MATRIX is --matrix FILE, with at most one of --perm and --ordering, and any of
-the others
+MATRIX is --matrix FILE, with at most one of --perm, --iperm and --ordering,
+and any of the others
 
   --tree FILE                a tree file: tasks of which each leaves one block
                              to its parent, as fronts do
@@ -394,6 +468,9 @@ the others
                              pattern is taken, made symmetric
   --perm FILE                its rows are eliminated in this order: the k-th
                              number is the row that goes k-th, from 1
+  --iperm FILE               the inverse of such an order, as METIS writes it:
+                             the v-th number is the place of row v, from 0
+                             where a 0 stands in it, else from 1
   --ordering natural|mindeg  in the order of the file, or by minimum degree (at
                              most 50,000 rows)
   --shape triangle|square    count the entries of one triangle of each front,
@@ -405,12 +482,14 @@ the others
   --graph FILE               a task graph file: tasks, and the data that go
                              from one to another
   --order FILE               an order file: the numbers of the tasks, in order,
-                             from 1
+                             from 1; or what post prints
   --plan FILE                a plan file, as plan prints it; its order is taken
   --bound B                  the memory that there is, in the units of the
                              input
   --workers W                for runs on at most W workers, 1 to 4096; on any
                              number of them without it
+  --fewest no|yes            with yes fences are left out that the others can
+                             do without
 
 Prints a fence file: each fence is a line FROM TO, by which task TO waits for
 task FROM, or for all readers of an item. From its amounts follows that no run
@@ -434,8 +513,8 @@ usage: memplan spill (INPUT | --graph FILE) (--order FILE | --plan FILE)
 --bound B
 INPUT is TREE, or --workflow FILE
 TREE is --tree FILE, or MATRIX
-MATRIX is --matrix FILE, with at most one of --perm and --ordering, and any of
-the others
+MATRIX is --matrix FILE, with at most one of --perm, --iperm and --ordering,
+and any of the others
 
   --tree FILE                a tree file: tasks of which each leaves one block
                              to its parent, as fronts do
@@ -445,6 +524,9 @@ the others
                              pattern is taken, made symmetric
   --perm FILE                its rows are eliminated in this order: the k-th
                              number is the row that goes k-th, from 1
+  --iperm FILE               the inverse of such an order, as METIS writes it:
+                             the v-th number is the place of row v, from 0
+                             where a 0 stands in it, else from 1
   --ordering natural|mindeg  in the order of the file, or by minimum degree (at
                              most 50,000 rows)
   --shape triangle|square    count the entries of one triangle of each front,
@@ -456,7 +538,7 @@ the others
   --graph FILE               a task graph file: tasks, and the data that go
                              from one to another
   --order FILE               an order file: the numbers of the tasks, in order,
-                             from 1
+                             from 1; or what post prints
   --plan FILE                a plan file, as plan prints it; its order is taken
   --bound B                  the memory that there is, in the units of the
                              input
@@ -480,8 +562,8 @@ memplan segments: how low memory can come within each bound
 usage: memplan segments INPUT
 INPUT is TREE, or --workflow FILE
 TREE is --tree FILE, or MATRIX
-MATRIX is --matrix FILE, with at most one of --perm and --ordering, and any of
-the others
+MATRIX is --matrix FILE, with at most one of --perm, --iperm and --ordering,
+and any of the others
 
   --tree FILE                a tree file: tasks of which each leaves one block
                              to its parent, as fronts do
@@ -491,6 +573,9 @@ the others
                              pattern is taken, made symmetric
   --perm FILE                its rows are eliminated in this order: the k-th
                              number is the row that goes k-th, from 1
+  --iperm FILE               the inverse of such an order, as METIS writes it:
+                             the v-th number is the place of row v, from 0
+                             where a 0 stands in it, else from 1
   --ordering natural|mindeg  in the order of the file, or by minimum degree (at
                              most 50,000 rows)
   --shape triangle|square    count the entries of one triangle of each front,
@@ -516,15 +601,20 @@ END
             cat <<'END'
 memplan reduce: the series-parallel workflow of a task graph
 
-usage: memplan reduce --graph FILE
+usage: memplan reduce --graph FILE [--order FILE | --plan FILE]
 
   --graph FILE  a task graph file: tasks, and the data that go from one to
                 another
+  --order FILE  an order file of the workflow's tasks: it is printed by the
+                tasks of the graph, in place of the workflow
+  --plan FILE   a plan file of the workflow; its order is taken
 
 Prints a workflow file, with a line # K NAME for each task: task K is task NAME
-of the graph, or a join if there is none; or the arcs, or the item, in the way.
-Status 9: the graph is not series-parallel, or an item has several readers and
-none after all the others.
+of the graph, or a join if there is none. With an order of its tasks, that
+order by the tasks of the graph, as post prints one: peak P, order N, N lines
+with one task each, end. Or the arcs, or the item, in the way. Status 1: the
+order is no traversal of the workflow. Status 9: the graph is not
+series-parallel, or an item has several readers and none after all the others.
 
 $ memplan reduce --graph examples/four.graph | tail -n 4
 # 1 3
@@ -617,6 +707,7 @@ usage: memplan COMMAND OPTIONS
   replay    the peak of an order
   post      the best postorder of a tree, and its peak
   tree      the tree of fronts of a matrix
+  columns   the columns of every front of a matrix, by the numbers of its file
   fronts    the rows of every front of a matrix
   simulate  a run on several workers within a bound on memory
   fence     fences that keep every parallel run within a bound on memory, or

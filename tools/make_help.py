@@ -13,7 +13,7 @@ from pathlib import Path
 from typing import Callable, Dict, Iterable, Iterator, List, Tuple
 
 sys.dont_write_bytecode = True
-from commands import COMMANDS, FILE, INPUT, INPUTS, STATUSES, Command, Option  # noqa: E402: so that nothing is written beside it
+from commands import AT_MOST_ONE, COMMANDS, FILE, INPUT, INPUTS, STATUSES, Command, Option  # noqa: E402: so that nothing is written beside it
 
 ROOT = Path(__file__).resolve().parent.parent
 MADE = "Made by tools/make_help.py of tools/commands.py."
@@ -30,7 +30,13 @@ HELP = (
     "the program alone: its help is `man memplan`, and the completions for bash and zsh. To source a completion here: `. tools/completion/memplan.bash`. "
     "`tools/explain` says of any refusal, with its file, what it means:"
 )
-ALL = {option.name: option for command in COMMANDS for option in command.options}
+ALL: Dict[str, Option] = {}
+# What an option takes where it is not what the first command that has it says, by the command and the option.
+OTHERWISE: Dict[Tuple[str, str], str] = {}
+for _command in COMMANDS:
+    for _option in _command.options:
+        if ALL.setdefault(_option.name, _option).value != _option.value:
+            OTHERWISE[_command.name, _option.name] = _option.value
 INPUT_NAMES = {option.name for option in INPUT}
 
 
@@ -179,9 +185,10 @@ def names_of(command: Command) -> str:
 
 
 def bash_completion() -> str:
-    words = [f"        --{option.name}) words=\"{' '.join(option.words())}\" ;;" for option in ALL.values() if option.words()]
-    files = " | ".join(f"--{option.name}" for option in ALL.values() if option.value == FILE)
-    numbers = " | ".join(f"--{option.name}" for option in ALL.values() if option.value != FILE and not option.words())
+    words = [f"        {command}--{name}) words=\"{value.replace('|', ' ')}\" ;;" for (command, name), value in OTHERWISE.items()]
+    words += [f"        *--{option.name}) words=\"{' '.join(option.words())}\" ;;" for option in ALL.values() if option.words()]
+    files = " | ".join(f"*--{option.name}" for option in ALL.values() if option.value == FILE)
+    numbers = " | ".join(f"*--{option.name}" for option in ALL.values() if option.value != FILE and not option.words())
     options = [f"                {command.name}) words=\"{names_of(command)}\" ;;" for command in COMMANDS]
     return "\n".join(
         [
@@ -193,7 +200,7 @@ def bash_completion() -> str:
             "    # bash cuts `--name=value` into three words",
             "    [ \"$before\" != = ] || before=${COMP_WORDS[COMP_CWORD - 2]}",
             "    [ \"$word\" != = ] || word=",
-            "    case $before in",
+            "    case ${COMP_WORDS[1]}$before in",
             *words,
             f"        {files})",
             "            compopt -o filenames 2>/dev/null",
@@ -298,7 +305,9 @@ def help_script() -> str:
     lines += bash_table("options_of", {command.name: " ".join(option.name for option in command.options) for command in COMMANDS})
     lines += bash_table("one_of", {command.name: " ".join(command.one_of) for command in COMMANDS})
     lines += bash_table("only_with", pairs)
-    lines += bash_table("value_of", {option.name: option.value for option in ALL.values()})
+    lines.append(f"at_most_one=\"{' '.join(AT_MOST_ONE)}\"")
+    own = {f"{command}.{name}": value for (command, name), value in OTHERWISE.items()}
+    lines += bash_table("value_of", {**{option.name: option.value for option in ALL.values()}, **own})
     lines += bash_table("range_of", numbers)
     lines += ["", "print_help() { # COMMAND, or nothing", "    case $1 in"]
     for name, text in [*((command.name, command_help(command)) for command in COMMANDS), ("*", summary_help())]:

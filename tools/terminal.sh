@@ -128,8 +128,13 @@ check_name() { # COMMAND NAME
     fault "there is no option --$2 of $1$(nearest -- "$2" ${options_of[$1]})"
 }
 
-check_value() { # NAME VALUE
-    local wanted=${value_of[$1]}
+# What an option takes: most take the same whatever the command.
+wanted_of() { # COMMAND NAME
+    echo "${value_of[$1.$2]:-${value_of[$2]}}"
+}
+
+check_value() { # NAME VALUE WANTED
+    local wanted=$3
     case $2 in
         "") fault "--$1 has an empty value; it is --$1 $wanted" ;;
         -) fault "- is no file; --$1 /dev/stdin reads standard input where that is a file, and no pipe" ;;
@@ -164,13 +169,13 @@ read_options() {
         case $1 in
             *=*) value=${1#*=} ;;
             *)
-                [ $# -gt 1 ] || fault "--$name has no value; it is --$name ${value_of[$name]}"
+                [ $# -gt 1 ] || fault "--$name has no value; it is --$name $(wanted_of "$command" "$name")"
                 value=$2
                 shift
                 ;;
         esac
         shift
-        check_value "$name" "$value"
+        check_value "$name" "$value" "$(wanted_of "$command" "$name")"
         given[$name]=$value
     done
 }
@@ -202,7 +207,7 @@ check_together() { # COMMAND
         count_given "$group"
         [ $count -gt 0 ] || fault "$1 wants $(as_options "$group")"
     done
-    for group in "perm|ordering" "order|plan"; do
+    for group in $at_most_one; do
         count_given "$group"
     done
     fault "these options do not go together"
@@ -282,7 +287,7 @@ say_refusal() { # SECONDS WORDS..
         say "refused, status $status; in place of a report there is the line: ${line:-its first one says why}"
     fi
     if [ -n "$line" ] && command -v python3 >/dev/null; then
-        "$here/tools/explain" $line "${@:3}"
+        "$here/tools/explain" $line --of "$2" "${@:3}"
     else
         say "docs/FORMATS.md, 'Reports and statuses', says what the line means"
     fi

@@ -1,18 +1,19 @@
 """The files that refusals speak of: their lines, what they should hold, and what else they may be."""
 
 import re
-from itertools import dropwhile, islice
+from itertools import dropwhile, islice, takewhile
 from typing import Dict, Iterator, List, NamedTuple, Tuple
 
 WIDTH = 100  # of a line that is shown
-KINDS = ("tree", "workflow", "graph", "matrix", "perm", "order", "plan", "fences", "priority")
+KINDS = ("tree", "workflow", "graph", "matrix", "perm", "iperm", "order", "plan", "fences", "priority")
 FORMS = {
     "tree": "a tree file has the lines `tree 1`, `nodes N`, N lines `parent out extra time` (`tree 2`: `parent out extra share time`), and `end`",
     "workflow": "a workflow file has the lines `workflow 1`, `tasks N`, lines `data D`, `task EXTRA TIME` and `par K`, and `end`",
     "graph": "a graph file has the lines `graph 1`, `tasks N`, N lines `extra share time`, `arcs M`, M lines `from to size`, and `end` (`graph 2`: `items M`, M lines `size from reader reader ..`)",
     "matrix": "a matrix file begins with `%%MatrixMarket matrix coordinate FIELD SYMMETRY`, then `ROWS COLUMNS ENTRIES`",
     "perm": "a permutation file has each row from 1 on once, the first one to go first",
-    "order": "an order file has the numbers of the tasks, in order, and nothing else",
+    "iperm": "a file of an inverse has the place of each row, row 1 first, each place once: from 0 on where a 0 stands in it, else from 1 on",
+    "order": "an order file has the numbers of the tasks, in order, and nothing else; or it is what `post` prints: `peak P`, `order N`, N tasks, and `end`",
     "plan": "a plan file has the lines `plan 1`, `order N`, N tasks, `peak P`, `claims C`, C claims, and `end`",
     "fences": "a fence file has the lines `fences 1`, `bound B`, `workers W`, `room L`, `joins J`, J places, `fences K`, K lines `FROM TO`, `amounts N`, N amounts, and `end`",
     "priority": "a priority file has each task from 1 on once, the first one to be preferred",
@@ -21,6 +22,7 @@ FORMS = {
 OTHER_FILES = {"tree": "tree", "workflow": "workflow", "graph": "graph", "plan": "plan", "fences": "fences", "%%matrixmarket": "matrix"}
 OTHER_TEXTS = {
     "peak": "is the report of `post` or `replay`.",
+    "columns": "is the report of `columns`: with `--print perm` that prints a permutation file.",
     "refused": "is a refusal, which an earlier run wrote; did `> FILE` write over the input?",
     "no": "is a refusal, which an earlier run wrote; did `> FILE` write over the input?",
 }
@@ -65,9 +67,22 @@ class File:
                 yield number, tokens
 
     def numbered(self) -> Iterator[Tuple[int, str]]:
-        """The tokens of all lines, each with the number of its line; of a plan those of its order."""
-        rows = islice(self.rows(), 2, 2 + self.stated("order")) if self.kind == "plan" else self.rows()
+        """The tokens of all lines, each with the number of its line; of a plan, and of what `post` prints, those of its order."""
+        rows = self.rows()
+        if self.kind == "plan":
+            rows = islice(rows, 2, 2 + self.stated("order"))
+        elif self.is_report():
+            rows = takewhile(lambda row: row[1] != ["end"], islice(rows, 2, None))
         return ((number, token) for number, tokens in rows for token in tokens)
+
+    def is_report(self) -> bool:
+        """Whether it is an order as `post` prints it."""
+        return self.kind == "order" and [tokens[0] for _, tokens in islice(self.rows(), 2)] == ["peak", "order"]
+
+    def is_of_scotch(self) -> bool:
+        """Whether it has a head and two columns, as Scotch's gord writes an order."""
+        rows = list(self.rows())
+        return len(rows) > 1 and rows[0][1] == [str(len(rows) - 1)] and all(len(tokens) == 2 for _, tokens in rows[1:])
 
     def stated(self, word: str) -> int:
         """The number behind a word, as in `nodes 5`."""
@@ -152,6 +167,8 @@ def foreign(file: File, line: int) -> str:
         return f"{file.name} has lines that end with a carriage return alone: `tr '\\r' '\\n'` makes lines of them."
     for number in (1, line):
         word = (file.tokens(number) or [""])[0].lower()
+        if (word, file.kind) == ("peak", "order"):
+            continue
         option = OTHER_FILES.get(word, file.kind)
         if option != file.kind:
             return f"{file.name} is a {option} file, which is given by `--{option}`."

@@ -188,7 +188,7 @@ def entries(case: Case) -> str:
 
 def size_of_permutation(case: Case) -> int:
     """How many rows, where the matrix is there; else as many as there are numbers."""
-    if case.file.kind == "perm" and "matrix" in case.files:
+    if case.file.kind in ("perm", "iperm") and "matrix" in case.files:
         return int(rows_of_matrix(case.files["matrix"])[0])
     if "plan" in case.files:
         return case.files["plan"].stated("order")
@@ -198,8 +198,9 @@ def size_of_permutation(case: Case) -> int:
 
 
 def odd_one(case: Case) -> str:
-    """The token of a permutation's line at which its reading stopped."""
+    """The token of a permutation's line, or of its inverse's, at which its reading stopped."""
     most, seen, at, last = size_of_permutation(case), set(), 0, 0
+    least = 0 if case.file.kind == "iperm" and counts_from_0(case.file) else 1
     for count, (number, token) in enumerate(case.file.numbered(), 1):
         at = at + 1 if number == last else 1
         last = number
@@ -208,25 +209,48 @@ def odd_one(case: Case) -> str:
             return f"{wrong_token(token)}."
         if count > most:
             return f"{place}, and it is one more than the {most} that are wanted."
-        if not 1 <= int(token) <= most:
-            return f"{place}, and they are from 1 to {most}."
+        if not least <= int(token) < least + most:
+            return f"{place}, and they are from {least} to {least + most - 1}{', as a 0 stands among them' if least == 0 else ''}."
         if int(token) in seen:
             return f"{place}, which stood before."
         seen.add(int(token))
-    missing = next((it for it in range(1, most + 1) if it not in seen), 0)
+    missing = next((it for it in range(least, least + most) if it not in seen), 0)
     return f"There are {many(len(seen), 'number')}, and {most} are wanted; {missing} is missing."
 
 
+def counts_from_0(file: File) -> bool:
+    return any(is_number(token) and int(token) == 0 for _, token in file.numbered())
+
+
+def scotch_cause(file: File) -> str:
+    return f"Scotch's gord writes a head and two columns; of these `--iperm` takes the second: awk 'NR > 1 {{ print $2 }}' {file.name}"
+
+
 def permutation_cause(case: Case) -> str:
+    if case.file.is_of_scotch():
+        return scotch_cause(case.file)
     numbers_there = [token for _, token in case.file.numbered()]
     if all(map(is_number, numbers_there)) and sorted(map(int, numbers_there)) == list(range(len(numbers_there))):
         if case.file.kind == "priority":
             return "The file counts from 0: add 1 to every number."
-        return (
-            "The file counts from 0: add 1 to every number. What METIS writes is the inverse besides, its k-th number is the place of row k; "
-            f"this turns it: awk '{{print $1, NR}}' {case.file.name} | sort -n | awk '{{print $2}}'"
-        )
+        return "The file counts from 0. What METIS writes is the inverse of the order: give it by `--iperm`, as it is. Where it is the order itself, as AMD's array, add 1."
     return form_of(case.file.kind)
+
+
+def inverse_cause(case: Case) -> str:
+    return scotch_cause(case.file) if case.file.is_of_scotch() else form_of(case.file.kind)
+
+
+def report_count(case: Case) -> str:
+    rows = list(case.file.rows())
+    if any(tokens == ["end"] and number < case.line for number, tokens in rows):
+        return "Nothing comes after `end`."
+    found = sum(len(tokens) for _, tokens in rows[2:] if tokens != ["end"])
+    return f"There is `order {rows[1][1][1]}` above, and the file has {many(found, 'number')} behind it: is that the right number?"
+
+
+def report_end(case: Case) -> str:
+    return NO_END if case.file.is_report() else "The report of `replay` tells a peak and no order: the order that it was given is what is asked for."
 
 
 def fences_number(case: Case) -> str:
@@ -288,6 +312,9 @@ MEANINGS: Dict[str, object] = {
     "matrix entry": entry,
     "matrix index": index,
     "order number": lambda case: next((f"{wrong_token(it)}." for it in case.tokens if wrong_token(it)), "A number is 2^32 or more."),
+    "order header": "A report that tells an order begins with `peak P` and `order N`, each with one number, as that of `post` does.",
+    "order count": report_count,
+    "order no-end": report_end,
     "plan section": SECTIONS.format("order N`, `peak P` or `claims C"),
     "plan order": "The order has one task on each line: is the number behind `order` right?",
     "plan number": lambda case: next((f"{wrong_token(it)}." for it in case.tokens if it not in "FR" and wrong_token(it)), "A number is too great."),
@@ -307,6 +334,7 @@ for kind in ("tree", "workflow", "graph", "plan", "fences"):
 for kind in ("perm", "priority"):
     for word in ("number", "count", "range", "repeated"):
         MEANINGS[f"{kind} {word}"] = (odd_one, permutation_cause)
+        MEANINGS[f"iperm {word}"] = (odd_one, inverse_cause)
 
 
 def of_format(case: Case, word: str) -> List[str]:
@@ -314,6 +342,6 @@ def of_format(case: Case, word: str) -> List[str]:
     is_other = foreign(case.file, case.line)
     if is_other:
         return [is_other, form]
-    found = MEANINGS[f"{case.file.kind} {word}"]
+    found = MEANINGS.get(f"{case.file.kind} {word}", (form,))
     parts = found if isinstance(found, tuple) else (found, form)
     return [case.file.place(case.line), *(part(case) if callable(part) else part for part in parts)]

@@ -86,7 +86,15 @@ def tasks_missing(files: Dict[str, File], order: List[int]) -> List[int]:
     return sorted(set(range(1, next(counts, 0) + 1)) - set(order))
 
 
-def of_order(place: int, word: str, files: Dict[str, File]) -> List[str]:
+def of_order(place: int, word: str, is_reduced: bool, files: Dict[str, File]) -> List[str]:
+    """What is said of an order's first fault; `is_reduced` where its tasks are those of the workflow that `reduce` makes of the graph."""
+    said = fault_of_order(place, word, {kind: file for kind, file in files.items() if not is_reduced or kind != "graph"})
+    if is_reduced:
+        return [*said[:-1], "The order is one of the workflow that `reduce` prints without it, by its numbers: is it one of the graph?"]
+    return said
+
+
+def fault_of_order(place: int, word: str, files: Dict[str, File]) -> List[str]:
     file = files.get("order") or files.get("plan")
     tokens = list(file.numbered()) if file else []
     if word == "missing":
@@ -107,7 +115,8 @@ def of_order(place: int, word: str, files: Dict[str, File]) -> List[str]:
         left = tasks_left(files, int(token), before) if is_number(token) else []
         waits = f": task {left[0]} comes first" if left else ""
         means = f"Place {place} of the order has task {token}, before a task whose data it takes up{waits}."
-        rule = "A task comes after those that make what it reads." if "graph" in files else "A node comes after its children."
+        is_tree = "tree" in files or "matrix" in files
+        rule = "A node comes after its children." if is_tree else "A task comes after those that make what it reads."
         cause = f"{rule} Is the order turned round, or that of another input?"
     return [*where, means, cause]
 

@@ -11,7 +11,6 @@ import io
 import json
 import os
 import random
-import shutil
 import subprocess
 import sys
 import tempfile
@@ -31,18 +30,25 @@ except ImportError:
     print("not run: test_draw.py: matplotlib is missing", file=sys.stderr)
     sys.exit(0)
 
-import draw
+try:
+    import draw
+except SystemExit as lack:
+    print(f"not run: test_draw.py: {lack}", file=sys.stderr)
+    sys.exit(0)
+
 import models
 import numpy as np
-from drawing import look, memory, order, run, system, text
+from drawing import order, system, text
+from drawing.look import STYLE
 from matplotlib import image, pyplot
+from memplan import _plot_look as look
+from memplan import _plot_run as run
+from memplan import _systems as systems
 
 PROGRAM = os.environ.get("MEMPLAN_PROGRAM")
 FIVE = str(EXAMPLES / "five.tree")
 ORDER = [1, 3, 2, 4, 5]
 SECONDS, BYTES = 30, 1_000_000
-
-needs_dot = unittest.skipUnless(shutil.which("dot"), "not run: graphviz is missing")
 
 
 class Drawing(unittest.TestCase):
@@ -67,7 +73,7 @@ class Drawing(unittest.TestCase):
 
     def figure(self, kind: str, words: list[str]) -> pyplot.Figure:
         """The same as matplotlib has it."""
-        with pyplot.rc_context(look.STYLE):
+        with pyplot.rc_context(STYLE):
             draw.draw(draw.parser_of_words().parse_args([kind, str(self.folder / "x.png"), *words]))
         return pyplot.gcf()
 
@@ -175,8 +181,8 @@ class WhatIsSeen(Drawing):
     def test_the_peak_of_many_steps_is_dark(self) -> None:
         tree = self.file("spiked.tree", spiked(20_000, 9_000, 1000))
         pixels = pixels_of(self.picture("memory", ["--tree", tree, "a=1..n"], "png"))
-        red = tuple(int(look.RED[at : at + 2], 16) for at in (1, 3, 5))
-        is_dark = np.abs(pixels - red).max(axis=2) < 16
+        dark = 255 * np.array(look.darker(look.RED))
+        is_dark = np.abs(pixels - dark).max(axis=2) < 16
         # the panel is about 200 pixels high
         self.assertGreater(is_dark.sum(axis=0).max(), 100)
 
@@ -223,10 +229,8 @@ class WhatIsSeen(Drawing):
                 tree = self.file(name, FIVE_NODES)
                 words = ["--unit", name[:4], "--tree", tree, f"{name[:6]}=1..n"]
                 ElementTree.parse(self.picture("memory", words))
-                if shutil.which("dot"):
-                    ElementTree.parse(self.picture("fronts", ["--unit", name[:4], tree]))
+                ElementTree.parse(self.picture("fronts", ["--unit", name[:4], tree]))
 
-    @needs_dot
     def test_no_front_is_drawn_where_none_is_asked_for(self) -> None:
         self.assertIn("0 of 5", self.picture("fronts", ["--most", "0", FIVE]).read_text())
 
@@ -275,7 +279,6 @@ class Large(Drawing):
         report = self.file("s", f"segments 1\n1 F 0\n1 R {count} {steps}\nend\n")
         self.check_command(["stairs", "--number", "1", report])
 
-    @needs_dot
     def test_fronts(self) -> None:
         count = 200_000
         draws = random.Random(3)
@@ -287,16 +290,25 @@ class Large(Drawing):
 class Readers(Drawing):
     """Files are read as plain models read them."""
 
-    def check_system(self, mine: system.System, plain: models.System) -> None:
-        self.assertEqual(mine.first, plain.first)
-        self.assertEqual(mine.needs.tolist(), plain.needs)
-        self.assertEqual(mine.gains.tolist(), plain.gains)
-        self.assertEqual(mine.times.tolist(), plain.times)
+    def check_system(self, mine: system.Read, plain: models.System) -> None:
+        drawn = mine.system
+        made, taken = (systems.sums(mine.count + 1, ends, drawn.sizes) for ends in self.ends(drawn))
+        self.assertEqual(made[0], plain.first)
+        self.assertEqual(drawn.needs.tolist(), plain.needs)
+        self.assertEqual((made - taken)[1:].tolist(), plain.gains)
+        self.assertEqual(drawn.times.tolist(), plain.times)
         arcs = {(int(maker), int(taker)) for maker, taker in zip(mine.makers, mine.takers)}
         pairs = enumerate(plain.suppliers, 1)
         self.assertEqual(arcs, {(maker + 1, taker) for taker, them in pairs for maker in them})
 
-    def check_orders(self, mine: system.System, plain: models.System, draws: random.Random) -> None:
+    @staticmethod
+    def ends(drawn: systems.System) -> tuple[np.ndarray, np.ndarray]:
+        """Who makes and who reads each item of a system in which one task at most does."""
+        readers = np.zeros(len(drawn.sizes), np.int64)
+        readers[np.diff(drawn.starts) > 0] = drawn.readers
+        return drawn.producers, readers
+
+    def check_orders(self, mine: system.Read, plain: models.System, draws: random.Random) -> None:
         for _ in range(8):
             numbers = draws.sample(range(1, plain.count + 1), plain.count)
             if draws.random() < 0.3:
@@ -306,7 +318,8 @@ class Readers(Drawing):
             fault = plain.fault(numbers)
             given = order.Order("o", np.array(numbers, np.int64), np.arange(len(numbers)) + 1)
             if fault is None:
-                course = memory.course_of("o", mine, given, False)
+                order.expect_traversal(mine, given)
+                course = systems.course_of(mine.system, given.numbers)
                 self.assertEqual(course.peak, plain.peak(numbers))
                 continue
             with self.assertRaises(text.Refusal) as caught:

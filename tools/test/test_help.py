@@ -16,7 +16,11 @@ TABLE = "tools/commands.py"
 COMPLETED = [
     (["memplan", ""], re.findall(r'\n        name="(\w+)"', (ROOT / TABLE).read_text())),
     (["memplan", "re"], ["replay", "reduce"]),
-    (["memplan", "fronts", "--"], ["--matrix", "--perm", "--ordering", "--bound", "--workers"]),
+    (["memplan", "fronts", "--"], ["--matrix", "--perm", "--iperm", "--ordering", "--bound", "--workers"]),
+    (["memplan", "columns", "--matrix", "a.mtx", "--print", ""], ["text", "perm"]),
+    (["memplan", "columns", "--print", "=", "p"], ["perm"]),
+    (["memplan", "plan", "--print", ""], ["text", "json"]),
+    (["memplan", "columns", "--iperm", "my"], ["my own.tree", "my.tree"]),
     (["memplan", "upgrade", "--plan", "my.plan", "--p"], ["--priority"]),
     (["memplan", "plan", "--matrix", "a.mtx", "--ordering", ""], ["natural", "mindeg"]),
     (["memplan", "plan", "--inplace", "=", "y"], ["yes"]),

@@ -128,7 +128,18 @@ WRONG: List[Tuple[str, List[str]]] = [
     (f"plan {TREE} --ordering mindeg", ["--ordering goes with --matrix, which is not given"]),
     (f"plan {MATRIX} --ordering amd", ["amd is no value of --ordering; it is --ordering natural|mindeg"]),
     (f"plan {MATRIX} --ordering MINDEG", ["MINDEG is no value of --ordering", "natural|mindeg"]),
-    (f"plan {MATRIX} {PERM} --ordering mindeg", ["of --perm and --ordering one alone is given"]),
+    (f"plan {MATRIX} {PERM} --ordering mindeg", ["of --perm, --iperm and --ordering one alone is given"]),
+    (f"tree {MATRIX} {PERM} --iperm arrow.iperm", ["of --perm, --iperm and --ordering one alone is given"]),
+    (f"fronts {MATRIX} --iperm arrow.iperm --ordering mindeg --bound 4 --workers 1", ["of --perm, --iperm and --ordering one alone is given"]),
+    (f"post {TREE} --iperm arrow.iperm", ["--iperm goes with --matrix, which is not given"]),
+    ("columns --help", ["usage: memplan columns MATRIX [--order FILE | --plan FILE] [--print text|perm]", "--iperm FILE"]),
+    (f"column {MATRIX}", ["there is no command column; do you mean columns?"]),
+    ("columns", ["columns wants --matrix"]),
+    (f"columns {TREE}", ["--tree is no option of columns, but of plan"]),
+    (f"columns {MATRIX} {ORDER} {PLAN}", ["of --order and --plan one alone is given"]),
+    (f"columns {MATRIX} --print json", ["json is no value of --print; it is --print text|perm"]),
+    (f"columns {MATRIX} --print", ["--print has no value; it is --print text|perm"]),
+    (f"plan {MATRIX} --print perm", ["perm is no value of --print; it is --print text|json"]),
     (f"plan {MATRIX} --inplace", ["--inplace has no value; it is --inplace no|yes"]),
     (f"plan {MATRIX} --inplace true", ["true is no value of --inplace; it is --inplace no|yes"]),
     (f"plan {MATRIX} --shape full", ["full is no value of --shape", "triangle|square"]),
@@ -159,7 +170,13 @@ WRONG: List[Tuple[str, List[str]]] = [
     (f"fence {ORDER} --bound 16", ["fence wants --tree, --workflow, --matrix or --graph"]),
     (f"fence {TREE} {ORDER} --bound 11 --workers 5000", ["--workers 5000: it is a number from 1 to 4096"]),
     (f"fronts {MATRIX} --bound 4", ["fronts wants --workers"]),
+    (f"fence {TREE} --fewest yes", ["--fewest goes with --bound, which is not given"]),
+    (f"fence {TREE} --bound 16 --fewest", ["--fewest has no value; it is --fewest no|yes"]),
+    (f"fence {TREE} --bound 16 --fewest true", ["true is no value of --fewest; it is --fewest no|yes"]),
+    (f"plan {TREE} --fewest yes", ["--fewest is no option of plan, but of fence"]),
     (f"reduce {WORKFLOW}", ["--workflow is no option of reduce"]),
+    (f"reduce {ORDER}", ["reduce wants --graph"]),
+    (f"reduce {GRAPH} {ORDER} {PLAN}", ["of --order and --plan one alone is given"]),
     (f"upgrade {TREE} --priority four.priority", ["--priority goes with --plan, which is not given"]),
     ("demo", ["demo wants --seed or --rows"]),
     ("demo --seed 1", ["--seed goes with --tasks, which is not given"]),
@@ -207,6 +224,7 @@ def alter(text: str, old: str, new: str) -> str:
 EXAMPLES = ("five.tree", "five.plan", "arrow.mtx", "branches.workflow", "four.graph", "shared.graph")
 FIVE, FIVE_PLAN, ARROW, BRANCHES, FOUR, SHARED = (example(it) for it in EXAMPLES)
 POST = "peak 15\norder 5\n1\n2\n3\n4\n5\nend\n"
+SCOTCH = "4\n1\t3\n2\t1\n3\t2\n4\t4\n"
 JSON = '{"claims":[],"order":[1],"peak":9}\n'
 FROM_0 = "1 1 9 1", "4 5 0 1", "3 1 9 1", "4 5 0 1"
 SHARE = "tree 2\nnodes 2\n2 3 0 0 1\n0 9 9 5 1\nend\n"
@@ -218,6 +236,7 @@ MEANT = {
     "graph": "reduce --graph my.graph",
     "matrix": "tree --matrix my.matrix",
     "perm": f"tree {MATRIX} --perm my.perm",
+    "iperm": f"tree {MATRIX} --iperm my.iperm",
     "order": f"replay {TREE} --order my.order",
     "plan": f"check {TREE} --plan my.plan",
     "priority": f"simulate {TREE} {ORDER} --bound 11 --workers 2 --priority my.priority",
@@ -279,12 +298,21 @@ BROKEN: List[Tuple[str, str, Text, str, List[str]]] = [
     ("a comment by #", "matrix", alter(ARROW, "4 4 3", "# rows\n4 4 3"), "refused format matrix size-line 2", ["begins with `%`"]),
     ("two numbers of size", "matrix", alter(ARROW, "4 4 3", "4 3"), "refused format matrix size-line 2", ["`ROWS COLUMNS ENTRIES`"]),
     ("too many rows", "matrix", alter(ARROW, "4 4 3", "1000001 1000001 3"), "refused limit matrix order", ["line 2: 1000001 1000001 3", "1,000,000"]),
-    ("as METIS writes it", "perm", "2\n3\n0\n1\n", "refused format perm range 3", ["line 3: 0", "counts from 0", "METIS writes is the inverse", "sort -n"]),
+    ("as METIS writes it", "perm", "2\n3\n0\n1\n", "refused format perm range 3", ["line 3: 0", "counts from 0", "METIS writes is the inverse", "by `--iperm`, as it is"]),
+    ("as Scotch writes it", "perm", SCOTCH, "refused format perm count 3", ["line 3: 2 1", "Number 2 of line 3 is 1", "`--iperm` takes the second: awk"]),
     ("a number twice", "perm", "2 3 2 4\n", "refused format perm repeated 1", ["Number 3 of line 1 is 2, which stood before"]),
     ("five numbers for four", "perm", "2 3 1 4 5\n", "refused format perm count 1", ["Number 5 of line 1 is 5", "one more than the 4"]),
     ("commas", "perm", "2, 3, 1, 4\n", "refused format perm number 1", ["`2,` has a comma"]),
     ("one too few", "perm", "2 3 1\n", "refused format perm count 2", ["3 numbers, and 4 are wanted; 4 is missing"]),
     ("too great a number", "perm", "2 3 1 7\n", "refused format perm range 1", ["Number 4 of line 1 is 7, and they are from 1 to 4"]),
+    ("as Scotch writes it", "iperm", SCOTCH, "refused format iperm count 3", ["line 3: 2 1", "Scotch's gord", "`--iperm` takes the second: awk"]),
+    ("a place twice", "iperm", "3\n1\n2\n2\n", "refused format iperm repeated 4", ["line 4: 2", "Number 1 of line 4 is 2, which stood before"]),
+    ("too great a place, from 0", "iperm", "2 0 1 4\n", "refused format iperm range 1", ["is 4, and they are from 0 to 3, as a 0 stands among them"]),
+    ("too great a place, from 1", "iperm", "3 1 2 5\n", "refused format iperm range 1", ["is 5, and they are from 1 to 4."]),
+    ("five places for four", "iperm", "2 0 1 3 4\n", "refused format iperm count 1", ["Number 5 of line 1 is 4", "one more than the 4"]),
+    ("commas", "iperm", "2, 0, 1, 3\n", "refused format iperm number 1", ["`2,` has a comma"]),
+    ("one too few", "iperm", "2\n0\n1\n", "refused format iperm count 4", ["3 numbers, and 4 are wanted; 3 is missing", "place of each row"]),
+    ("a matrix", "iperm", ARROW, "refused format iperm repeated 2", ["is a matrix file, which is given by `--matrix`"]),
     ("a priority from 0", "priority", "0 1 2 3 4\n", "refused format priority range 1", ["counts from 0: add 1"]),
     ("from 0", "order", "0 1 2 3 4\n", "no order 1 unknown", ["Place 1 of the order has 0", "count from 0?"]),
     ("a task of another input", "order", "1 2 3 4 6\n", "no order 5 unknown", ["Place 5 of the order has 6", "another input?"]),
@@ -292,7 +320,15 @@ BROKEN: List[Tuple[str, str, Text, str, List[str]]] = [
     ("one missing", "order", "1 2 3 4\n", "no order 5 missing", ["ends after 4 places, and task 5 is missing"]),
     ("one twice", "order", "1 2 1 4 5\n", "no order 3 repeated", ["Place 3 of the order has task 1, which stood before"]),
     ("a plan", "order", FIVE_PLAN, "refused format order number 1", ["is a plan file, which is given by `--plan`"]),
-    ("a report of post", "order", POST, "refused format order number 1", ["the report of `post`"]),
+    ("a report of replay", "order", "peak 15\n", "refused format order no-end 2", ["ends after line 1", "The report of `replay` tells a peak and no order"]),
+    ("a report without end", "order", put(POST, 8), "refused format order no-end 8", ["ends after line 7", "`end`, is not there"]),
+    ("a report of too few tasks", "order", put(POST, 2, "order 6"), "refused format order count 8", ["line 8: end", "`order 6` above, and the file has 5 numbers"]),
+    ("a report of too many tasks", "order", put(POST, 2, "order 4"), "refused format order count 7", ["line 7: 5", "`order 4` above, and the file has 5 numbers"]),
+    ("a report and more", "order", f"{POST}more\n", "refused format order count 9", ["Nothing comes after `end`"]),
+    ("a report without its order", "order", put(POST, 2), "refused format order header 2", ["line 2: 1", "begins with `peak P` and `order N`"]),
+    ("a report with a sign", "order", put(POST, 4, "+2"), "refused format order number 4", ["line 4: +2", "`+2` has a sign"]),
+    ("a report with a parent first", "order", "peak 15\norder 5\n2 1\n3 4 5\nend\n", "no order 1 too-early", ["my.order, line 3: 2 1", "task 1 comes first"]),
+    ("a report of columns", "order", "columns 1\n1 2 3 4\nend\n", "refused format order number 1", ["is the report of `columns`"]),
     ("commas", "order", "1,2,3,4,5\n", "refused format order number 1", ["`1,2,3,4,5` has a comma"]),
     ("another peak", "plan", alter(FIVE_PLAN, "peak 11", "peak 10"), "no peak 11 10", ["has the peak 11, and the plan says 10"]),
     ("another order", "plan", alter(FIVE_PLAN, "1\n3\n2\n4\n5\n", "1\n3\n2\n5\n4\n"), "no order 4 too-early", ["my.plan, line 6: 5", "task 4 comes first"]),
@@ -354,13 +390,34 @@ class Files(FilesTest):
         self.write("my.perm", LONG_PERM)
         self.check("tree --matrix my.mtx --perm my.perm".split(), 3, "refused format perm range 1", "Number 369 of line 1 is 0, and they are from 1 to 1000")
 
-    def test_the_way_back_from_an_inverse_permutation(self) -> None:
+    def test_orders_of_other_tools_are_taken_as_their_refusal_says(self) -> None:
         # rows 2, 3, 1, 4 go first to last; so row 1 goes third, row 2 first, row 3 second, row 4 fourth
+        taken = self.run_bare(f"tree {MATRIX} {PERM}".split())
         self.write("my.perm", "2\n0\n1\n3\n")
-        rest = self.check(f"tree {MATRIX} --perm my.perm".split(), 3, "refused format perm range 2", "this turns it: awk")
-        command = rest.partition("this turns it: ")[2].splitlines()[0]
+        self.check(f"tree {MATRIX} --perm my.perm".split(), 3, "refused format perm range 2", "give it by `--iperm`, as it is")
+        self.assertEqual(self.run_bare(f"tree {MATRIX} --iperm my.perm".split()), taken)
+        self.write("my.perm", SCOTCH)
+        rest = self.check(f"tree {MATRIX} --perm my.perm".split(), 3, "refused format perm count 3", "`--iperm` takes the second: ")
+        command = rest.partition("takes the second: ")[2].splitlines()[0]
         turned = subprocess.run(command, shell=True, cwd=self.where, stdout=subprocess.PIPE, check=True)
-        self.assertEqual(turned.stdout, b"2\n3\n1\n4\n")
+        self.write("my.iperm", turned.stdout)
+        self.assertEqual(self.run_bare(f"tree {MATRIX} --iperm my.iperm".split()), taken)
+
+    def test_orders_of_fronts_and_of_workflows(self) -> None:
+        # by minimum degree rows 2 and 3 are fronts 1 and 2, whose parent is front 3
+        self.write("my.order", "3\n1\n2\n")
+        run = f"columns {MATRIX} --ordering mindeg --order my.order".split()
+        self.check(run, 1, "no order 1 too-early", "my.order, line 1: 3", "A node comes after its children")
+        self.write("my.order", "1 2\n")
+        self.check(run, 1, "no order 3 missing", "ends after 2 places")
+        # task 1 of the workflow is task 3 of the graph, which waits for task 1, task 4 of the workflow
+        self.write("my.graph", FOUR)
+        self.write("my.order", "1 2 3 4\n")
+        run = "reduce --graph my.graph --order my.order".split()
+        rest = self.check(run, 1, "no order 1 too-early", "my.order, line 1: 1 2 3 4", "The order is one of the workflow that `reduce` prints")
+        self.assertNotIn("comes first", rest)
+        self.write("my.order", "peak 14\norder 4\n4\n1\n1\n3\nend\n")
+        self.check(run, 1, "no order 3 repeated", "my.order, line 5: 1", "Place 3 of the order has task 1, which stood before")
 
     def test_bounds_and_graphs_that_are_refused(self) -> None:
         run = f"{TREE} --order five.postorder --bound"
@@ -431,6 +488,8 @@ class Running(FilesTest):
 
     def test_nothing_is_added_where_all_is_well(self) -> None:
         self.assertEqual(self.check("replay --tree five.tree --order five.order".split(), 0, "peak 11"), "")
+        self.write("my.order", POST)
+        self.assertEqual(self.check("replay --tree five.tree --order my.order".split(), 0, "peak 15"), "")
         # an inverse permutation that counts from 1 is a permutation too: nothing can be said
         self.write("my.perm", "3\n1\n2\n4\n")
         self.assertEqual(self.check(f"tree {MATRIX} --perm my.perm".split(), 0, "tree 1"), "")
