@@ -17,12 +17,14 @@ from random_files import (
     listed,
     random_certificate,
     random_graph,
+    random_inverse,
     random_matrix,
     random_permutation,
     random_plan,
     random_shared_graph,
     random_tree,
     random_workflow,
+    reported,
 )
 
 EXAMPLES = Path(__file__).resolve().parent.parent.parent / "examples"
@@ -52,18 +54,15 @@ def example(draw: random.Random, suffix: str) -> bytes:
 
 def matrix_options(draw: random.Random) -> Options:
     """Options of a matrix in any number, of which some do not go together now and then."""
+    orders = [("--perm", "q"), ("--iperm", "i"), ("--ordering", draw.choice(["natural", "mindeg", "mindeg"]))]
     options = [
-        ("--perm", "q"),
-        ("--ordering", draw.choice(["natural", "mindeg", "mindeg"])),
         ("--shape", draw.choice(["triangle", "square"])),
         ("--amalgamate", draw.choice(["0", "1", "3", "1000", "1099511627776"])),
         ("--inplace", draw.choice(["yes", "no"])),
     ]
-    chosen = [option for option in options if draw.random() < 0.4]
-    # a permutation and an ordering
-    if len(chosen) > 1 and chosen[1][0] == "--ordering" and draw.random() < 0.95:
-        del chosen[1]
-    return chosen
+    # no two of an order of elimination, but now and then
+    chosen = draw.sample(orders, draw.choice([0, 0, 1, 1, 1, 1] if draw.random() < 0.97 else [2, 3]))
+    return chosen + [option for option in options if draw.random() < 0.4]
 
 
 def random_setting(draw: random.Random, bench: Bench, inputs: tuple[str, ...]) -> Setting:
@@ -84,7 +83,7 @@ def random_setting(draw: random.Random, bench: Bench, inputs: tuple[str, ...]) -
     text = random_matrix(draw) if draw.random() < 0.85 else example(draw, "mtx")
     size = int(next(tokens for tokens in rows(text) if len(tokens) == 3)[0])
     options = [("--matrix", "m"), *matrix_options(draw)]
-    files = {"m": text, "q": random_permutation(draw, size)}
+    files = {"m": text, "q": random_permutation(draw, size), "i": random_inverse(draw, size)}
     bench.put(files)
     tree = bench.printed(["tree", *(f"{name}={value}" for name, value in options)])
     return setting_of(draw, options, files, system_of_tree(tree)) if tree else Setting(options, files, [1])
@@ -95,10 +94,10 @@ def setting_of(draw: random.Random, options: Options, files: dict[str, bytes], s
 
 
 def order_text(draw: random.Random, order: list[int]) -> bytes:
-    """Mostly the order, else another one of the same numbers, or one of an example."""
+    """Mostly the order, else another one of the same numbers, or one of an example; now and then as a report states it."""
     if draw.random() < 0.1:
         return example(draw, "order")
-    return listed(draw, order if draw.random() < 0.85 else draw.sample(order, len(order)))
+    return draw.choice([listed, listed, reported])(draw, order if draw.random() < 0.85 else draw.sample(order, len(order)))
 
 
 def plan_text(draw: random.Random, bench: Bench, setting: Setting) -> bytes:
@@ -154,6 +153,8 @@ def fence_options(draw: random.Random, bench: Bench, setting: Setting) -> Option
         if draw.random() < 0.3:
             # the order is planned
             options = options[1:]
+    if draw.random() < (0.4 if options else 0.02):
+        options.append(("--fewest", draw.choice(["yes", "yes", "no"])))
     return options + ([("--workers", draw.choice(["1", "2", "3", "16", "4096"]))] if draw.random() < 0.4 else [])
 
 
@@ -181,7 +182,7 @@ def spill_options(draw: random.Random, bench: Bench, setting: Setting) -> Option
 
 def fronts_options(draw: random.Random, bench: Bench, setting: Setting) -> Options:
     if draw.random() < 0.95:
-        setting.options[:] = [option for option in setting.options if option[0] in ("--matrix", "--perm", "--ordering")]
+        setting.options[:] = [option for option in setting.options if option[0] in ("--matrix", "--perm", "--iperm", "--ordering")]
     bench.put(setting.files)
     # a bound of 0 is below every peak, which is told
     told = bench.run(["fronts", *(f"{name}={value}" for name, value in setting.options), "--bound=0", "--workers=1"])
@@ -227,6 +228,29 @@ def plan_options(draw: random.Random, bench: Bench, setting: Setting) -> Options
     return [*options, *bound_options(draw, bench, setting)] if is_graph else options
 
 
+def columns_options(draw: random.Random, bench: Bench, setting: Setting) -> Options:
+    options = [("--print", draw.choice(["text", "perm", "perm"]))] if draw.random() < 0.6 else []
+    if draw.random() < 0.3:
+        return options
+    if draw.random() < 0.8:
+        return [*options, *replay_options(draw, bench, setting)]
+    bench.put(setting.files)
+    setting.files["o"] = bench.printed(["post", *(f"{name}={value}" for name, value in setting.options)]) or b""
+    return [*options, ("--order", "o")]
+
+
+def reduce_options(draw: random.Random, bench: Bench, setting: Setting) -> Options:
+    """None, or an order of the workflow that is printed without one."""
+    if draw.random() < 0.4:
+        return []
+    bench.put(setting.files)
+    text = bench.printed(["reduce", "--graph=g"]) or random_workflow(draw)
+    workflow = setting_of(draw, [("--workflow", "w")], {"w": text}, system_of_workflow(text))
+    options = replay_options(draw, bench, workflow)
+    setting.files.update((name, workflow.files[name]) for _, name in options)
+    return options
+
+
 def no_options(_draw: random.Random, _bench: Bench, _setting: Setting) -> Options:
     return []
 
@@ -270,9 +294,10 @@ COMMANDS = {
     "fence": Command(INPUTS_AND_GRAPHS, fence_options),
     "fronts": Command(("matrix",), fronts_options),
     "segments": Command(ALL_INPUTS, no_options),
-    "reduce": Command(("graph", "shared graph"), no_options),
+    "reduce": Command(("graph", "shared graph"), reduce_options),
     "bound": Command(("shared graph",), bound_options),
     "tree": Command(("matrix",), no_options),
+    "columns": Command(("matrix",), columns_options),
     "post": Command(("tree", "tree", "matrix"), no_options),
     "demo": Command((), demo_options),
     "upgrade": Command(("tree", "workflow", "shared graph"), upgrade_options),
@@ -285,6 +310,7 @@ PROBES = {
     "fronts": ["fronts", "--matrix=m", "--bound=0", "--workers=1"],
     "reduce": ["reduce", "--graph=g"],
     "bound": ["bound", "--graph=g"],
+    "columns": ["columns", "--matrix=m"],
 }
 
 

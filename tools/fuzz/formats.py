@@ -268,12 +268,18 @@ def read_banner(page: Page) -> int:
     return VALUES[words[3]]
 
 
-def read_permutation(file: str, text: bytes, count: int) -> int:
+def base_of(text: bytes) -> int:
+    """What a file of an inverse counts from: 0 where some token states 0, else 1."""
+    return 0 if any(number(token) == 0 for _, tokens in Page("iperm", text, "").rest for token in tokens) else 1
+
+
+def read_permutation(file: str, text: bytes, count: int, base: int = 1) -> int:
+    """So many numbers, from the base on."""
     page = Page(file, text, "count")
     seen: set[int] = set()
     for page.number, page.tokens in page.rest:
         for place in range(len(page.tokens)):
-            value = page.number_at(place)
+            value = page.number_at(place) + 1 - base
             page.test(len(seen) < count, "count")
             page.test(1 <= value <= count, "range")
             page.test(value not in seen, "repeated")
@@ -283,8 +289,17 @@ def read_permutation(file: str, text: bytes, count: int) -> int:
     return count
 
 
+def states_order(text: bytes) -> bool:
+    """Whether a file of an order is a report that states one."""
+    _, tokens = next(Page("order", text, "").rest, (0, []))
+    return tokens[:1] == [b"peak"]
+
+
 def read_order(text: bytes) -> int:
-    page = Page("order", text, "")
+    """How many numbers there are."""
+    page = Page("order", text, "no-end")
+    if states_order(text):
+        return read_reported_order(page)
     seen = 0
     for page.number, page.tokens in page.rest:
         for place in range(len(page.tokens)):
@@ -292,6 +307,29 @@ def read_order(text: bytes) -> int:
             seen += 1
             page.limit(seen <= MOST_TASKS, "tasks")
     return seen
+
+
+def read_reported_order(page: Page) -> int:
+    """The same of a report as `post` prints it."""
+    read_stated(page, b"peak")
+    count = read_stated(page, b"order")
+    page.limit(count <= MOST_TASKS, "tasks")
+    seen = 0
+    while page.go_on() != [b"end"]:
+        for place in range(len(page.tokens)):
+            page.test(seen < count, "count")
+            page.test(page.number_at(place) < 2**32, "number")
+            seen += 1
+    page.test(seen == count, "count")
+    page.end("count")
+    return count
+
+
+def read_stated(page: Page, word: bytes) -> int:
+    """The number of a line of this word and a number; where it is another line, the header is refused."""
+    page.go_on()
+    page.test(len(page.tokens) == 2 and page.tokens[0] == word, "header")
+    return page.number_at(1, "header")
 
 
 # ---- plans
@@ -578,10 +616,13 @@ def judge_graph(page: Page, tasks: list[GraphTask], items: list[Item]) -> None:
 
 # ---- words
 
-MATRIX_OPTIONS = {"perm", "ordering", "shape", "amalgamate", "inplace"}
+MATRIX_OPTIONS = {"perm", "iperm", "ordering", "shape", "amalgamate", "inplace"}
 
 # Commands whose matrix takes no more options than they list.
 WITHOUT_FRONT_OPTIONS = {"fronts"}
+
+# Of each of these at most one.
+AT_MOST_ONE = ({"perm", "iperm", "ordering"}, {"order", "plan"})
 
 # The inputs of each command, the options that it must have, one of each group, and those that it may have.
 COMMANDS: dict[str, tuple[set[str], list[set[str]], set[str]]] = {
@@ -590,22 +631,26 @@ COMMANDS: dict[str, tuple[set[str], list[set[str]], set[str]]] = {
     "check": ({"tree", "workflow", "matrix", "graph"}, [{"plan", "fences"}], {"workers"}),
     "simulate": ({"tree", "workflow", "matrix", "graph"}, [{"order", "plan"}, {"bound"}, {"workers"}], {"priority"}),
     "spill": ({"tree", "workflow", "matrix", "graph"}, [{"order", "plan"}, {"bound"}], set()),
-    "fence": ({"tree", "workflow", "matrix", "graph"}, [], {"order", "plan", "bound", "workers"}),
-    "fronts": ({"matrix"}, [{"bound"}, {"workers"}], {"perm", "ordering"}),
+    "fence": ({"tree", "workflow", "matrix", "graph"}, [], {"order", "plan", "bound", "workers", "fewest"}),
+    "fronts": ({"matrix"}, [{"bound"}, {"workers"}], {"perm", "iperm", "ordering"}),
     "segments": ({"tree", "workflow", "matrix"}, [], set()),
-    "reduce": ({"graph"}, [], set()),
+    "reduce": ({"graph"}, [], {"order", "plan"}),
     "bound": ({"graph"}, [], {"order", "effort"}),
     "tree": ({"matrix"}, [], set()),
+    "columns": ({"matrix"}, [], {"order", "plan", "print"}),
     "post": ({"tree", "matrix"}, [], set()),
     "demo": (set(), [], {"kind", "seed", "tasks", "rows", "cols"}),
     "upgrade": ({"tree", "workflow", "graph", "plan"}, [], {"priority"}),
 }
 
+# What options take; of two words where that is so of this command alone.
 CHOICES = {
     "ordering": {"natural", "mindeg"},
     "shape": {"triangle", "square"},
     "inplace": {"no", "yes"},
     "print": {"text", "json"},
+    "columns print": {"text", "perm"},
+    "fewest": {"no", "yes"},
     "kind": {"tree", "workflow", "grid"},
 }
 
@@ -631,7 +676,9 @@ def request_of(words: list[str]) -> Optional[dict[str, str]]:
     of_matrix = MATRIX_OPTIONS if "matrix" in names and words[0] not in WITHOUT_FRONT_OPTIONS else set()
     allowed = inputs.union(*needed, further, of_matrix)
     groups = ([inputs] if inputs else []) + needed
-    if names - allowed or any(len(names & group) != 1 for group in groups) or {"perm", "ordering"} <= names:
+    if names - allowed or any(len(names & group) != 1 for group in groups):
+        return None
+    if any(len(names & group) > 1 for group in AT_MOST_ONE):
         return None
     if words[0] == "demo" and not is_demo(options):
         return None
@@ -639,11 +686,11 @@ def request_of(words: list[str]) -> Optional[dict[str, str]]:
         return None
     if words[0] == "check" and {"fences", "workers"} <= names:
         return None
-    if words[0] == "fence" and len(names & {"order", "plan"}) > len(names & {"bound"}):
+    if words[0] == "fence" and names & {"order", "plan", "fewest"} and "bound" not in names:
         return None
     if words[0] == "plan" and names & {"order", "effort"} and "graph" not in names:
         return None
-    return options if all(is_value(name, value) for name, value in options.items()) else None
+    return options if all(is_value(words[0], name, value) for name, value in options.items()) else None
 
 
 def split_options(words: list[str]) -> Optional[dict[str, str]]:
@@ -660,9 +707,9 @@ def split_options(words: list[str]) -> Optional[dict[str, str]]:
     return options
 
 
-def is_value(name: str, value: str) -> bool:
-    if name in CHOICES:
-        return value in CHOICES[name]
+def is_value(command: str, name: str, value: str) -> bool:
+    if choice := CHOICES.get(f"{command} {name}", CHOICES.get(name)):
+        return value in choice
     if name in RANGES:
         read = number(value.encode())
         least, most = RANGES[name]
@@ -672,6 +719,6 @@ def is_value(name: str, value: str) -> bool:
 
 def is_demo(options: dict[str, str]) -> bool:
     wanted = {"rows", "cols"} if options.get("kind") == "grid" else {"seed", "tasks"}
-    if set(options) - {"kind"} != wanted or not all(is_value(name, value) for name, value in options.items()):
+    if set(options) - {"kind"} != wanted or not all(is_value("demo", name, value) for name, value in options.items()):
         return False
     return "rows" not in wanted or int(options["rows"]) * int(options["cols"]) <= MOST_MINDEG

@@ -9,9 +9,11 @@ so the same call runs the same cases. Of each run it asks what docs/FORMATS.md s
 
 - the status is one of the table, standard error holds its one line or nothing, and standard output is empty where nothing is printed;
 - a refusal is one line of its grammar, about a file that the words name, and the one that the plain readers of formats.py find;
-- peaks, faults of orders, verdicts on plans and fences, simulated runs, rows of fronts, rests of graphs and least volumes that are spilled are those of the
-  plain models of models.py, and so are the staircases of terms of few tasks; a reduced graph has the system of its workflow;
+- peaks, faults of orders, verdicts on plans and fences, simulated runs, rows and columns of fronts, rests of graphs and least volumes that are spilled are
+  those of the plain models of models.py and fronts.py, and so are the staircases of terms of few tasks; a reduced graph has the system of its workflow;
 - no order of ten tasks or fewer has a lower peak than a plan, and `check` says yes to what `plan` and `fence` printed;
+- in the order of elimination that `columns` prints, a matrix has the fronts that it had before; an order of a workflow, by the tasks of the graph that it is
+  of, is one of the graph, with a peak that is no higher;
 - a tree that `tree` prints has the plan of its matrix, a best postorder is a postorder and has its peak;
 - the same words give the same bytes again, and a full or closed output is a write fault.
 

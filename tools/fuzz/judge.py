@@ -30,17 +30,18 @@ from certificates import Judge as FenceJudge
 from certificates import certificate_of
 from evidence import BoundedPlan, bounded_plan_of, evidence_of
 from evidence import Judge as EvidenceJudge
+from fronts import columns_of, columns_report, fronts_report, later_of, vertices_of_fronts
 from models import (
     SharedSystem,
     Simulation,
     Spilling,
     System,
     children_of,
-    columns_of,
     first_position,
-    fronts_report,
+    inverse_of,
     numbers,
     objection,
+    order_of,
     parts_of,
     plan_of,
     planned_peak,
@@ -63,7 +64,8 @@ KINDS = {
     "graph": "header number section arc item cycle share no-end",
     "matrix": "banner not-matrix array-format field symmetry size-line not-square entry index too-few too-many",
     "perm": "number range repeated count",
-    "order": "number",
+    "iperm": "number range repeated count",
+    "order": "header number count no-end",
     "plan": "header number section order priority claim amount no-end",
     "fences": "header section number join fence amount workers no-end",
     "priority": "number range repeated count",
@@ -75,6 +77,7 @@ LIMITS = {
     "graph": "bytes tasks arcs positions uses size total time",
     "matrix": "bytes order entries mindeg steps",
     "perm": "bytes",
+    "iperm": "bytes",
     "order": "bytes tasks",
     "plan": "bytes tasks positions",
     "fences": "bytes tasks positions",
@@ -82,7 +85,7 @@ LIMITS = {
 }
 
 # The options that make up an input.
-INPUT_OPTIONS = ("tree", "workflow", "graph", "matrix", "perm", "ordering", "shape", "amalgamate", "inplace")
+INPUT_OPTIONS = ("tree", "workflow", "graph", "matrix", "perm", "iperm", "ordering", "shape", "amalgamate", "inplace")
 
 # No more tasks than this are planned by trying all orders.
 FEW = 10
@@ -141,6 +144,8 @@ class Judge:
             lines["check"] = f"no joins (many|items)|no workers room|no {fences}|no amounts (count|total)|no amount {count} (size|limit)|no bound {count}"
         if "graph" in self.options:
             lines["plan"] = order
+        if {"order", "plan"} & self.options.keys():
+            lines |= {"columns": order, "reduce": order}
         return self.words[0] in lines and bool(re.fullmatch(f"({lines[self.words[0]]})\n", self.text))
 
     # ---- refusals
@@ -150,7 +155,7 @@ class Judge:
         if formats.request_of(self.words) is None:
             return failed(USAGE)
         count = 0
-        for file in ("tree", "workflow", "graph", "matrix", "perm", "order", "plan", "fences", "priority"):
+        for file in ("tree", "workflow", "graph", "matrix", "perm", "iperm", "order", "plan", "fences", "priority"):
             if file not in self.options:
                 continue
             text = self.bench.read(self.options[file])
@@ -159,7 +164,7 @@ class Judge:
             read, refusal = self.read(file, text, count)
             if refusal:
                 return Ending(FORMAT if refusal.startswith("format") else LIMIT, f"refused {refusal}\n".encode(), b"")
-            if file not in ("perm", "order", "fences") and (file != "plan" or self.words[0] == "upgrade"):
+            if file not in ("perm", "iperm", "order", "fences") and (file != "plan" or self.words[0] == "upgrade"):
                 count = read
         return None
 
@@ -170,8 +175,9 @@ class Judge:
             if self.options.get("ordering") == "mindeg" and order > formats.MOST_MINDEG:
                 refusal = "limit matrix mindeg"
             return order, refusal
-        if file == "perm":
-            return formats.refusal_of(partial(formats.read_permutation, file, text, count))
+        if file in ("perm", "iperm"):
+            base = formats.base_of(text) if file == "iperm" else 1
+            return formats.refusal_of(partial(formats.read_permutation, file, text, count, base))
         if file == "priority":
             count = system_of(self.bench, self.options).count if "matrix" in self.options else count
             return formats.refusal_of(partial(formats.read_permutation, file, text, count))
@@ -201,7 +207,7 @@ class Judge:
         return self.bench.read(self.options[option]) or b""
 
     def asked_order(self) -> list[int]:
-        return plan_of(self.file("plan")).order if "plan" in self.options else numbers(self.file("order"))
+        return plan_of(self.file("plan")).order if "plan" in self.options else order_of(self.file("order"))
 
     def replay_ends(self) -> Iterator[str]:
         system, order = system_of(self.bench, self.options), self.asked_order()
@@ -249,6 +255,10 @@ class Judge:
             yield f"the fences have an objection: {verdict}"
         elif bound is None and (forbidding := judge.forbidding(made.fences)):
             yield f"of the tasks as they stand these fences forbid some run: {forbidding}"
+        if self.options.get("fewest") == "yes":
+            all_words = [f"--{name}={value}" for name, value in self.options.items() if name != "fewest"]
+            if not set(made.fences) <= set(certificate_of(self.bench.run(["fence", *all_words]).report).fences):
+                yield "these are not some of the fences that there are without --fewest"
         self.bench.write("made", self.ending.report)
         if self.bench.run(["check", *input_words(self.options), "--fences=made"]) != Ending(DONE, verdict.encode(), b""):
             yield "check does not say yes to the fences"
@@ -263,10 +273,30 @@ class Judge:
         text = system.fault(order) or ending_of_spill(Spilling(system, order, int(self.options["bound"])), word, self.text)
         yield from self.expect(text)
 
-    def fronts_ends(self) -> Iterator[str]:
+    def eliminated(self) -> dict[int, set[int]]:
+        """The vertices of the matrix in the order of their elimination, each with those of its column after it."""
         order = numbers(self.file("perm")) if "perm" in self.options else None
-        columns = columns_of(self.file("matrix"), order, self.options.get("ordering") == "mindeg")
+        if "iperm" in self.options:
+            order = inverse_of(numbers(self.file("iperm")))
+        return later_of(self.file("matrix"), order, self.options.get("ordering") == "mindeg")
+
+    def fronts_ends(self) -> Iterator[str]:
+        columns = columns_of(self.eliminated())
         yield from self.expect(fronts_report(columns, int(self.options["bound"]), int(self.options["workers"])))
+
+    def columns_ends(self) -> Iterator[str]:
+        zeros = int(self.options["amalgamate"]) if "amalgamate" in self.options else None
+        order = self.asked_order() if {"order", "plan"} & self.options.keys() else None
+        vertices, fault = vertices_of_fronts(self.eliminated(), zeros, order)
+        yield from self.expect(fault or columns_report(vertices, self.options.get("print") == "perm"))
+        if fault:
+            return
+        # of the order that is printed the fronts are the same, before any are merged
+        self.bench.write("made", columns_report(vertices, True).encode())
+        given = [word for word in input_words(self.options) if word.startswith(("--matrix", "--perm", "--iperm", "--ordering"))]
+        new, old = (self.bench.run(["tree", *words]) for words in ([given[0], "--perm=made"], given))
+        if new.status != DONE or sorted(line[1:] for line in rows(new.report)[2:-1]) != sorted(line[1:] for line in rows(old.report)[2:-1]):
+            yield "in the order that is printed the matrix has other fronts"
 
     def segments_ends(self) -> Iterator[str]:
         term, places = term_of(self.bench, self.options), places_of(self.bench, self.options)
@@ -286,10 +316,30 @@ class Judge:
                 elif system.count <= FEW and steps != system.staircase(direction == "R"):
                     yield f"expected the steps {system.staircase(direction == 'R')} of {line!r}"
 
+    def carried_order_ends(self) -> Iterator[str]:
+        """Of an order of the workflow that `reduce` prints."""
+        made, order = self.bench.run(["reduce", f"--graph={self.options['graph']}"]).report, self.asked_order()
+        graph, workflow = shared_system_of_graph(self.file("graph")), system_of_workflow(made)
+        if fault := workflow.fault(order):
+            yield from self.expect(fault)
+            return
+        names = dict(re.findall(r"^# (\d+) (\d+)$", made.decode(), re.M))
+        # what stands behind the tasks of the graph are joins
+        told = [name for name in (int(names[str(number)]) for number in order) if name <= graph.count]
+        if fault := graph.fault(told):
+            yield f"of the graph the order is {fault!r}"
+            return
+        yield from self.expect("".join([f"peak {graph.peak(told)}\norder {len(told)}\n", *(f"{number}\n" for number in told), "end\n"]))
+        if graph.peak(told) > workflow.peak(order):
+            yield f"the order has the peak {workflow.peak(order)} in the workflow"
+
     def reduce_ends(self) -> Iterator[str]:
         (graph, refusal), text = reduction_of(self.file("graph")), self.ending.report
         if refusal:
             yield from self.expect(refusal)
+            return
+        if {"order", "plan"} & self.options.keys():
+            yield from self.carried_order_ends()
             return
         places, names = zip(*re.findall(r"^# (\d+) (\d+)$", self.text, re.M)) if graph.tasks else ((), ())
         if self.ending.status != DONE or formats.refusal_of(partial(formats.read_workflow, text)) != (len(graph.tasks), None):
@@ -308,7 +358,7 @@ class Judge:
     def graph_plan_ends(self) -> Iterator[str]:
         system, most = shared_system_of_graph(self.file("graph")), None
         if "order" in self.options:
-            order = numbers(self.file("order"))
+            order = order_of(self.file("order"))
             if fault := system.fault(order):
                 yield from self.expect(fault)
                 return
@@ -358,7 +408,7 @@ class Judge:
     def bound_ends(self) -> Iterator[str]:
         system, head = shared_system_of_graph(self.file("graph")), ""
         if "order" in self.options:
-            order = numbers(self.file("order"))
+            order = order_of(self.file("order"))
             if fault := system.fault(order):
                 yield from self.expect(fault)
                 return

@@ -2,7 +2,6 @@
 import itertools
 import math
 import re
-from collections import Counter
 from collections.abc import Callable, Iterable, Iterator
 from typing import NamedTuple, Optional
 
@@ -299,6 +298,18 @@ def numbers(text: bytes) -> list[int]:
     return [int(token) for tokens in rows(text) for token in tokens]
 
 
+def order_of(text: bytes) -> list[int]:
+    """The order that an order file states, or a report."""
+    lines = rows(text)
+    is_report = lines[:1] and lines[0][0] == "peak"
+    return [int(token) for tokens in (lines[2:-1] if is_report else lines) for token in tokens]
+
+
+def inverse_of(places: list[int]) -> list[int]:
+    """The order of 1 to n in which each stands at its place, counted from 0 or from 1."""
+    return sorted(range(1, len(places) + 1), key=lambda vertex: places[vertex - 1])
+
+
 def tree_parents(text: bytes) -> list[int]:
     """The parents of a tree's nodes; 0 is none."""
     return [int(tokens[0]) for tokens in rows(text)[2:-1]]
@@ -592,76 +603,7 @@ def system_of_graph(graph: Graph) -> System:
     return System(graph.tasks, [[size, start - 1 if start else None, end - 1 if end else None] for start, end, size in graph.arcs])
 
 
-# ---- the rows of fronts
-
-
-def columns_of(text: bytes, order: Optional[list[int]], is_mindeg: bool) -> list[list[int]]:
-    """The structures of a matrix's columns along the postorder of their elimination tree, eliminated in an order, or by number or degree."""
-    size, *entries = [[int(token) for token in tokens[:2]] for tokens in rows(text)]
-    joined: dict[int, set[int]] = {vertex: set() for vertex in range(1, size[0] + 1)}
-    for one, two in entries:
-        joined[one].add(two)
-        joined[two].add(one)
-    later: dict[int, set[int]] = {}
-    for turn in range(size[0]):
-        degrees = ((len(near - {vertex}), vertex) for vertex, near in joined.items())
-        vertex = order[turn] if order else min(degrees)[1] if is_mindeg else turn + 1
-        later[vertex] = joined.pop(vertex) - {vertex}
-        for near in later[vertex]:
-            joined[near] = (joined[near] | later[vertex]) - {vertex}
-    numbers_by = {vertex: number for number, vertex in enumerate(postorder_of_columns(later), 1)}
-    return [sorted(numbers_by[row] for row in {vertex} | later[vertex]) for vertex in numbers_by]
-
-
-def postorder_of_columns(later: dict[int, set[int]]) -> list[int]:
-    """The vertices along the postorder of their elimination tree, where they stand in the order of their elimination."""
-    place = {vertex: turn for turn, vertex in enumerate(later)}
-    below: dict[Optional[int], list[int]] = {None: [], **{vertex: [] for vertex in later}}
-    for vertex, rest in later.items():
-        below[min(rest, key=place.__getitem__, default=None)].append(vertex)
-    post: list[int] = []
-    left = [*below[None]]
-    while left:
-        # each vertex before those below it, the last child first
-        post.append(left.pop())
-        left += below[post[-1]]
-    return post[::-1]
-
-
-def supernodes_of(columns: list[list[int]]) -> list[list[int]]:
-    """The runs of columns of which each is the only child of the next and has one row more."""
-    parents = [rows_of[1] if len(rows_of) > 1 else 0 for rows_of in columns]
-    children = Counter(parents)
-    supers: list[list[int]] = []
-    for column, rows_of in enumerate(columns, 1):
-        before = columns[column - 2]
-        if column > 1 and parents[column - 2] == column and children[column] == 1 and len(before) == len(rows_of) + 1:
-            supers[-1].append(column)
-        else:
-            supers.append([column])
-    return supers
-
-
-def fronts_report(columns: list[list[int]], bound: int, workers: int) -> str:
-    """What `fronts` prints of a factor with these columns."""
-    supers = supernodes_of(columns)
-    home = {column: number for number, run in enumerate(supers) for column in run}
-    items: list[list] = []
-    for number, run in enumerate(supers):
-        parent = columns[run[-1] - 1][1:2]
-        items.append([len(columns[run[0] - 1]) - len(run), number, home[parent[0]] if parent else None])
-    system, order = System([(len(run), 0, 1) for run in supers], items), list(range(1, len(supers) + 1))
-    if system.peak(order) > bound:
-        return f"refused bound {bound} {system.peak(order)}\n"
-    simulation = Simulation(system, order, order, bound, workers)
-    simulation.report()
-    rounds: dict[str, list[str]] = {}
-    for time, word, number in (event.split() for event in simulation.events):
-        if word == "start":
-            rounds.setdefault(time, []).append(number)
-    lists = [*rounds.values(), *([str(row) for row in columns[run[0] - 1]] for run in supers)]
-    head = f"fronts {len(supers)}\nrounds {len(rounds)}\nused {simulation.most_used}\n"
-    return head + "".join(" ".join(line) + "\n" for line in lists) + "end\n"
+# ---- plans
 
 
 class Plan(NamedTuple):

@@ -185,6 +185,18 @@ def random_permutation(draw: random.Random, count: int) -> bytes:
     return listed(draw, draw.sample(range(1, count + 1), count))
 
 
+def random_inverse(draw: random.Random, count: int) -> bytes:
+    """The places of so many vertices in an order of elimination, counted from 0 or from 1."""
+    base = draw.choice([0, 1])
+    return listed(draw, draw.sample(range(base, base + count), count))
+
+
+def reported(draw: random.Random, order: list[int]) -> bytes:
+    """An order in a report as `post` prints it, its numbers on lines of their own or not, with some number for the peak."""
+    numbers = listed(draw, order) if draw.random() < 0.5 else "".join(f"{number}\n" for number in order).encode()
+    return f"peak {small(draw)}\norder {len(order)}\n".encode() + numbers + b"end\n"
+
+
 def listed(draw: random.Random, values: list[int]) -> bytes:
     """Numbers on several lines."""
     return "".join(f"{value}{draw.choice([' ', chr(10)])}" for value in values).encode() + b"\n"
@@ -241,7 +253,7 @@ LIMITS = (50_000, 1_000_000, 4_000_001, 10_000_000, 2**32 - 1, 2**40, 2**60, 2**
 
 NEAR_LIMITS = [str(limit + more) for limit in LIMITS for more in (0, 1)]
 
-WORDS = "0 1 2 3 7 00 007 -0 -1 +1 1.5 1e3 x end F R % # data par task \0 \u00e9".split(" ")
+WORDS = "0 1 2 3 7 00 007 -0 -1 +1 1.5 1e3 x end peak order F R % # data par task \0 \u00e9".split(" ")
 
 TOKENS = WORDS + NEAR_LIMITS + [str(2**16), str(2**31), str(2**63), str(-(2**60)), str(-(2**60) - 1), "9" * 40]
 
@@ -298,7 +310,7 @@ def changed_words(draw: random.Random, words: list[str]) -> list[str]:
     """A line of words with one change."""
     words = list(words)
     place = draw.randrange(len(words)) if words else 0
-    value = draw.choice(TOKENS + ["", "-t", "--", "--help", "natural", "square", "json"]).replace("\0", "")
+    value = draw.choice(TOKENS + ["", "-t", "--", "--help", "natural", "square", "json", "perm"]).replace("\0", "")
     which = draw.randrange(6)
     if which == 0 or not words:
         words.insert(place, value)
