@@ -1,13 +1,14 @@
 #!/usr/bin/env python3
 """What fences cost and gain on published shapes of workflows: rows of a table in Markdown.
 
-usage: bench/fences.py PROGRAM [--tasks N] [--seed S] [--effort E] [--families A,B,..] [--means]
+usage: bench/fences.py PROGRAM [--tasks N] [--seed S] [--effort E] [--families A,B,..] [--means] [--fewest]
 
 Each family is a graph of about N tasks (1,000). A task takes as long as the data that it reads and makes is large, give or take a third; it
 is run along the order that `plan --graph` finds with effort E, within 1, 1.2, 1.5 and 2 times that order's peak P, on 4 and on 16 workers.
 Makespans are in units of that of list scheduling without any bound: of `simulate`, by the better of two priorities (the order, and the
 longest path to the end), and of list scheduling by the longest path of the graph with the fences of `fence`, for any number of workers and
-for so many. The memory of each such run is held against the bound. With --means the last row has the geometric means.
+for so many. The memory of each such run is held against the bound. With --means the last row has the geometric means; with --fewest `fence` is
+asked for the fewest fences.
 """
 from __future__ import annotations
 
@@ -182,6 +183,7 @@ class Trial:
 
     def __init__(self, program: Path, folder: Path, family: str, given: argparse.Namespace) -> None:
         self.program, self.folder, self.family = program, folder, family
+        self.fewest = ["--fewest"] if given.fewest else []
         self.graph = Graph(families.graph_of(family, given.tasks, given.seed), given.seed)
         self.write("graph", self.graph.text())
         plan = self.answer("plan", "--graph", self.name("graph"), *([] if given.effort is None else ["--effort", str(given.effort)])).text.split("\n")
@@ -212,7 +214,7 @@ class Trial:
         return ["--graph", self.name("graph"), "--order", self.name("order")]
 
     def fenced(self, bound: int, workers: Optional[int]) -> Fenced:
-        made = self.answer("fence", *self.along(), "--bound", str(bound), *(["--workers", str(workers)] if workers else []))
+        made = self.answer("fence", *self.along(), "--bound", str(bound), *(["--workers", str(workers)] if workers else []), *self.fewest)
         self.write("fences", made.text)
         if self.answer("check", "--graph", self.name("graph"), "--fences", self.name("fences")).text != f"yes {bound}\n":
             raise Wrong("the fences are not accepted")
@@ -279,6 +281,7 @@ def arguments() -> argparse.Namespace:
     parser.add_argument("--seed", type=int, default=1, help=argparse.SUPPRESS)
     parser.add_argument("--effort", type=int, help=argparse.SUPPRESS)
     parser.add_argument("--families", type=families_of, default=list(families.FAMILIES), help=argparse.SUPPRESS)
+    parser.add_argument("--fewest", action="store_true", help=argparse.SUPPRESS)
     parser.add_argument("--means", action="store_true", help=argparse.SUPPRESS)
     given = parser.parse_args()
     if given.tasks < families.FEWEST_TASKS:
