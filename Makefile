@@ -14,7 +14,7 @@
 VERSION := $(shell sed -n 's/^\#define MEMPLAN_VERSION "\(.*\)"$$/\1/p' c/memplan.h)
 NAME := memplan-$(VERSION)-Linux-x86_64
 SETTLED = here='$(CURDIR)'; . tools/program.sh; find_program
-PYTHON := $(notdir $(wildcard python/memplan/*.py python/memplan/py.typed))
+PYTHON := $(notdir $(wildcard python/memplan/*.py python/memplan/*.html python/memplan/py.typed))
 
 all:
 	bash -uc '$(SETTLED)'

@@ -74,7 +74,7 @@ def contents(version: str, library: Path, program: Path) -> Dict[str, bytes]:
     except ImportError:
         sys.exit("make_wheel.py: a wheel is made by Python 3.11 or later; what it holds runs on older ones too")
     project = tomllib.loads((HERE / "pyproject.toml").read_text(encoding="utf-8"))["project"]
-    taken = [it for package in PACKAGES for it in sorted(package.iterdir()) if it.suffix in (".py", ".typed")]
+    taken = [it for package in PACKAGES for it in sorted(package.iterdir()) if it.suffix in (".py", ".html", ".typed")]
     files = {f"{it.parent.name}/{it.name}": it.read_bytes() for it in taken}
     files[f"memplan/libmemplan.so.{version.split('.')[0]}"] = library.read_bytes()
     files["memplan/memplan"] = program.read_bytes()

@@ -1,8 +1,10 @@
 #!/usr/bin/python3
 """Draws what memplan prints: memory over time, simulated runs, staircases, trees of fronts.
 
-It wants Debian's packages python3-matplotlib and, for `fronts`, graphviz; so it begins with
-/usr/bin/python3, which finds them. A picture is SVG or PNG, by the name of its file.
+It is a command over memplan.plot, of the package in python/, which draws; what stands here reads
+the files and judges them. It wants Debian's package python3-matplotlib, so it begins with
+/usr/bin/python3, which finds it, and the library, which `make -C c` makes. A picture is SVG or PNG,
+by the name of its file.
 
   draw.py memory five.svg --tree five.tree "best postorder=five.post" "least peak=five.plan"
   draw.py run five.svg --tree five.tree --bound 22 five.run
@@ -19,10 +21,13 @@ expected; 1 where a package is missing or the picture cannot be written.
 """
 import argparse
 import sys
+from pathlib import Path
 from typing import Optional
 
 try:
-    import matplotlib  # noqa: F401: told here, for it is asked for in several files
+    import matplotlib
+
+    matplotlib.use("Agg")
 except ImportError:
     sys.exit(
         "draw.py: matplotlib is missing: apt-get install python3-matplotlib,"
@@ -31,11 +36,15 @@ except ImportError:
 
 from matplotlib import pyplot
 
-from drawing.fronts import draw_fronts
-from drawing.look import STYLE, printable
-from drawing.memory import draw_memory
-from drawing.run import draw_run
-from drawing.staircases import draw_stairs
+# The package of this repository, without a file written beside it.
+sys.dont_write_bytecode = True
+sys.path.insert(0, str(Path(__file__).resolve().parent.parent / "python"))
+try:
+    from drawing.look import STYLE, printable
+except ImportError as lack:
+    sys.exit(f"draw.py: there is no library, which `make -C c` makes: {str(lack).splitlines()[0]}")
+
+from drawing.pictures import draw_fronts, draw_memory, draw_run, draw_stairs
 from drawing.system import system_of_tree, system_of_workflow
 from drawing.text import Refusal
 

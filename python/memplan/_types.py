@@ -50,3 +50,6 @@ Matrix = Union[SparseMatrix, Tuple[WholeNumbers, WholeNumbers]]
 
 Tasks = Union[Array, List[Any]]
 """Tasks as the caller calls them: an array of their numbers, or a list of their names."""
+
+Axes = Any
+"""Those of matplotlib, whose types are not asked for."""

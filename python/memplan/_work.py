@@ -24,7 +24,7 @@ from ._texts import (
     write_text,
 )
 from ._types import Tasks, WholeNumbers
-from .results import Blockers, Claims, Evidence, Fences, Need, Plan, Readers, Simulation, States
+from .results import Blockers, Claims, Evidence, Fences, Need, Plan, Readers, Simulation, States, kept_with
 
 Ordered = Union[Plan, WholeNumbers, Sequence[Any]]
 """An order of tasks, or a plan, of which the order is taken."""
@@ -106,7 +106,8 @@ class Work:
         makespan, used, booked = (page.section(word) for word in (b"makespan", b"used", b"booked"))
         time, what, task = page.tokens(page.section(b"events"), 3)
         told = self.naming.told(list(map(int, task)))
-        return Simulation(makespan, used, booked, frozen(list(map(int, time))), list(map(_EVENTS.__getitem__, what)), told)
+        run_of = Simulation(makespan, used, booked, frozen(list(map(int, time))), list(map(_EVENTS.__getitem__, what)), told)
+        return kept_with(run_of, work=self, bound=whole("bound", bound, U64), workers=whole("workers", workers, U32))
 
     def fence(self, order: Ordered, bound: SupportsIndex, workers: Optional[SupportsIndex] = None) -> Fences:
         """Dependences to add, after which no run that keeps to them passes the bound, whatever starts the tasks, and however long they
@@ -281,7 +282,8 @@ class Work:
     def _plan_told(self, plan: Plan) -> Plan:
         order = self._told(listed(plan.order), "order")
         priority = None if plan.priority is None else self._told(listed(plan.priority), "priority")
-        return plan._replace(order=order, evidence=self._evidence_told(plan.evidence), priority=priority)
+        told = plan._replace(order=order, evidence=self._evidence_told(plan.evidence), priority=priority)
+        return kept_with(told, work=self)
 
     def _evidence_told(self, evidence: Optional[Evidence]) -> Optional[Evidence]:
         if isinstance(evidence, Need):

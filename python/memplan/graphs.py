@@ -7,14 +7,15 @@ from typing import Any, Dict, Hashable, Iterable, List, Mapping, Optional, Seque
 
 from . import EFFORT, _calls
 from ._arrays import frozen, kept, listed, optional, shifted, sums
+from ._dask import Sizes, inputs_of, is_plain, read_collection, told_of
 from ._naming import NOTHING, Naming, places
 from ._networks import attributes_of, edges_of, nodes_of
 from ._numbers import U32, U64, Width, _together, _turned, whole
 from ._refusals import TaskRefused
 from ._texts import GraphText, PathLike, graph_text, read_bound, read_bytes, read_graph, read_plan
-from ._types import Array, WholeNumbers
+from ._types import Array, Axes, WholeNumbers
 from ._work import Ordered, Work
-from .results import Bound, Gap, Gaps, Item, Join, Plan, Readers
+from .results import Bound, Gap, Gaps, Item, Join, Plan, Readers, kept_with
 from .workflows import Workflow
 
 _PRODUCERS = (Width("q", -1, U32.most - 1, "32 bits"), U32)  # of tasks that count from 0, and from 1
@@ -216,6 +217,27 @@ class Graph(Work):
         return cls._of_items(naming, items, *told)
 
     @classmethod
+    def from_dask(cls, collection: Any, sizes: Sizes, time: Mapping[Any, SupportsIndex] = NOTHING) -> "Graph":
+        """Of a Dask collection, or several in a list, a tuple or a dict, which are optimized first, as Dask would run them; or of a plain Dask
+        graph, a mapping from keys to tasks, as it is. The keys are the names. ``sizes``, a mapping or a function of keys, has for each the
+        size of its result, or that and the extra of its task. The results that the collection is made of stay to the end, and in a plain
+        graph those that no task reads. Times are 1 where none are told.
+
+        >>> tasks = {"load": (range, 9), "count": (len, "load"), "sort": (sorted, "load"), "merge": (max, "count", "sort")}
+        >>> plan = Graph.from_dask(tasks, sizes={"load": 10, "count": 1, "sort": (10, 5), "merge": 2}).plan()
+        >>> plan.order, plan.peak
+        (['load', 'sort', 'count', 'merge'], 25)
+        """
+        if is_plain(collection):
+            inputs = inputs_of(collection)
+            told = {key: told_of(sizes, key) for key in inputs}
+            size, extra = ({key: pair[at] for key, pair in told.items()} for at in range(2))
+            return cls.of_mapping(inputs, size, extra, time=time)
+        read = read_collection(collection, sizes)
+        times = places(Naming.of(len(read.keys), 1, read.keys), time, "time", 1)
+        return cls(read.extras, read.items, time=times, names=read.keys)
+
+    @classmethod
     def _of_items(
         cls,
         naming: Naming,
@@ -290,7 +312,7 @@ class Graph(Work):
             return self._plan_told(read_plan(page.text, page.file))
         told = memoryview(b"").cast("I") if numbers is None else numbers
         order, peak, bound = self._asked(_calls.plan_shared, self._system(), told, steps, order=told)
-        return Plan(self.naming.told(order), peak, bound)
+        return kept_with(Plan(self.naming.told(order), peak, bound), work=self)
 
     def check(self, plan: Plan, workers: SupportsIndex = 1) -> None:
         """Judges a plan by its evidence, whoever made it, on so many threads; refused with the first objection.
@@ -356,6 +378,16 @@ class Graph(Work):
 
     def _task_or_join(self, number: int) -> Any:
         return self.naming.name(number) if self.naming.has(number) else Join(number - len(self))
+
+    def plot(self, ax: Optional[Axes] = None, *, most: int = 40, unit: Optional[str] = None) -> Axes:
+        """The tasks, each below all that it reads from, by matplotlib, as `memplan.plot.graph` draws them.
+
+        >>> DIAMOND.plot(unit="MB").get_title(loc="left")
+        'graph of 4 tasks'
+        """
+        from . import plot
+
+        return plot.graph(self, ax, most=most, unit=unit)
 
     # Files
 

@@ -2,9 +2,20 @@
 
 from __future__ import annotations
 
-from typing import Any, Dict, List, NamedTuple, Optional, Tuple, Union
+from typing import TYPE_CHECKING, Any, Dict, List, Literal, NamedTuple, Optional, Sequence, Tuple, TypeVar, Union
 
-from ._types import Array, Tasks
+from ._types import Array, Axes, Tasks
+
+if TYPE_CHECKING:
+    import os
+
+    from .graphs import Graph
+    from .trees import Tree
+    from .workflows import Workflow
+
+    Work = Union[Tree, Graph, Workflow]
+else:
+    Work = Any
 
 __all__ = [
     "Blockers",
@@ -74,17 +85,51 @@ class Blockers(NamedTuple):
 Evidence = Union[Claims, Need, States, Blockers]
 
 
-class Plan(NamedTuple):
-    """An order, its peak, and a bound that no order has a peak below; evidence for that, if it was asked for, and a ranking for `simulate`.
+class Made:
+    """What a `Tree`, a `Graph` or a `Workflow` made or read: ``work`` is that one, and None of what was made by hand, copied or pickled. It
+    is no part of the tuple."""
 
-    All is as its maker says: `check` judges it. Of a tree or a workflow the bound is the peak.
-    """
+    work: Optional[Work] = None
 
+    def _of(self, work: Optional[Work]) -> Work:
+        """The work that is told, or else the one that made this."""
+        found = self.work if work is None else work
+        if found is None:
+            raise TypeError(f"work: a {type(self).__name__} that was made by hand has none; say of which tasks it is")
+        return found
+
+    def __getstate__(self) -> None:
+        """Copies and pickles have no more than the tuple."""
+        return None
+
+    if not TYPE_CHECKING:
+
+        def _replace(self, **changes):
+            return kept_with(super()._replace(**changes), **vars(self))
+
+
+AnyMade = TypeVar("AnyMade", bound=Made)
+
+
+def kept_with(made: AnyMade, **known: Any) -> AnyMade:
+    """The same, with what it is made of and by."""
+    vars(made).update(known)
+    return made
+
+
+class _Plan(NamedTuple):
     order: Tasks
     peak: int
     bound: int
     evidence: Optional[Evidence] = None
     priority: Optional[Tasks] = None
+
+
+class Plan(Made, _Plan):
+    """An order, its peak, and a bound that no order has a peak below; evidence for that, if it was asked for, and a ranking for `simulate`.
+
+    All is as its maker says: `check` judges it. Of a tree or a workflow the bound is the peak.
+    """
 
     @property
     def is_least(self) -> bool:
@@ -94,6 +139,51 @@ class Plan(NamedTuple):
         False
         """
         return self.bound == self.peak
+
+    def plot(
+        self,
+        ax: Optional[Axes] = None,
+        work: Optional[Work] = None,
+        *,
+        unit: Optional[str] = None,
+        by: Literal["tasks", "time"] = "tasks",
+        label: str = "",
+        bound: Optional[int] = None,
+    ) -> Axes:
+        """Memory along the order, by matplotlib, as `memplan.plot.memory` draws it. ``work`` is told of a plan that was made by hand.
+
+        >>> axes = FIVE.plan().plot(unit="entries")
+        >>> axes.get_title(loc="left")
+        'peak 11 entries'
+        """
+        from . import plot
+
+        return plot.memory(self._of(work), self, ax, unit=unit, by=by, label=label, bound=bound)
+
+    def report(
+        self,
+        path: Union[str, "os.PathLike[str]"],
+        work: Optional[Work] = None,
+        *,
+        bounds: Sequence[int] = (),
+        workers: Sequence[int] = (4,),
+        simulations: Sequence[Simulation] = (),
+        unit: Optional[str] = None,
+        title: str = "",
+    ) -> None:
+        """Writes a page of the plan, one file that loads nothing: memory step by step, with zoom, and what is held at each step; of a tree
+        its tasks by memory, with the claims on them; what shows that no order needs less, which is judged by `check` first. The makespans
+        of runs within ``bounds``, on each number of ``workers``, and those of ``simulations``, are shown against their bounds.
+
+        >>> FIVE.plan(evidence=True).report(FOLDER / "report.html", bounds=[11, 15, 22], workers=[2], unit="entries")
+        >>> (FOLDER / "report.html").read_text().count("https://")
+        0
+        """
+        from ._report import simulations_of, write_report
+        from ._systems import unit_of
+
+        of = self._of(work)
+        write_report(path, of, self, [*simulations, *simulations_of(of, self, bounds, workers)], unit_of(of, unit), title)
 
 
 class Bound(NamedTuple):
@@ -140,18 +230,24 @@ class Fences(NamedTuple):
         return list(found)
 
 
-class Simulation(NamedTuple):
-    """A run on several workers within a bound: how long it takes, the greatest memory that was used, and that was booked.
-
-    The events are columns: the time of each, what happens (``activate``, ``start`` or ``finish``), and the task.
-    """
-
+class _Simulation(NamedTuple):
     makespan: int
     used: int
     booked: int
     time: Array
     what: List[str]
     task: Tasks
+
+
+class Simulation(Made, _Simulation):
+    """A run on several workers within a bound: how long it takes, the greatest memory that was used, and that was booked.
+
+    The events are columns: the time of each, what happens (``activate``, ``start`` or ``finish``), and the task. ``bound`` and ``workers``,
+    which are no part of the tuple, are what `simulate` was asked for, and None of a run that was made by hand.
+    """
+
+    bound: Optional[int] = None
+    workers: Optional[int] = None
 
     def spans(self) -> List[Tuple[Any, int, int]]:
         """Each task with the times of its start and its end, in the order in which they start.
@@ -165,6 +261,24 @@ class Simulation(NamedTuple):
             if what != "activate":
                 (starts if what == "start" else ends)[task] = int(time)
         return [(task, start, ends[task]) for task, start in starts.items()]
+
+    def plot(
+        self,
+        ax: Optional[Tuple[Axes, Axes]] = None,
+        work: Optional[Work] = None,
+        *,
+        unit: Optional[str] = None,
+        bound: Optional[int] = None,
+    ) -> Tuple[Axes, Axes]:
+        """Who works when, above what is used and booked, by matplotlib, as `memplan.plot.run` draws it: two axes.
+
+        >>> above, below = FIVE.simulate(FIVE.plan(), bound=15, workers=2).plot()
+        >>> above.get_title(loc="left")
+        'makespan 4: 5 tasks, at most 2 at once'
+        """
+        from . import plot
+
+        return plot.run(self._of(work), self, ax, unit=unit, bound=bound)
 
 
 class Spill(NamedTuple):
@@ -201,6 +315,16 @@ class Segments(NamedTuple):
 
     forward: Stairs
     backward: Stairs
+
+    def plot(self, ax: Optional[Axes] = None, *, unit: str = "units", label: str = "") -> Axes:
+        """Both staircases, by matplotlib, as `memplan.plot.segments` draws them.
+
+        >>> FIVE.segments()["b"].plot(label="b").get_title(loc="left")
+        'how low memory comes within each bound: b'
+        """
+        from . import plot
+
+        return plot.segments(self, ax, unit=unit, label=label)
 
 
 class Join(NamedTuple):

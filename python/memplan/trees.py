@@ -12,9 +12,9 @@ from ._networks import attributes_of, nodes_of
 from ._numbers import I64, U32, U64, Width, numpy, whole
 from ._refusals import TaskRefused
 from ._texts import Page, PathLike, TreeText, read_bytes, read_tree, tree_text
-from ._types import Array, Matrix, Tasks, WholeNumbers
+from ._types import Array, Axes, Matrix, Tasks, WholeNumbers
 from ._work import Ordered, Work
-from .results import Claims, Plan, Segments, Spill, Stairs
+from .results import Claims, Plan, Segments, Spill, Stairs, kept_with
 
 _PARENTS = (Width(I64.letter, -1, U32.most - 1, "32 bits"), U32)  # of nodes that count from 0, and from 1
 
@@ -168,9 +168,9 @@ class Tree(Work):
         """
         if evidence:
             order, peak, claims = self._asked(_calls.certify_tree, self._nodes())
-            return Plan(self.naming.told(order), peak, peak, claims)
+            return kept_with(Plan(self.naming.told(order), peak, peak, claims), work=self)
         order, peak = self._asked(_calls.plan_tree, self._nodes())
-        return Plan(self.naming.told(order), peak, peak)
+        return kept_with(Plan(self.naming.told(order), peak, peak), work=self)
 
     def check(self, plan: Plan) -> None:
         """Judges a plan by its claims, whoever made it; refused with the first objection.
@@ -227,6 +227,16 @@ class Tree(Work):
         Stairs(level=5, steps=[(6, 1), (10, 0)])
         """
         return dict(zip(self.names, segments_of(self._run("segments"))))
+
+    def plot(self, ax: Optional[Axes] = None, *, most: int = 24, unit: Optional[str] = None, name: str = "") -> Axes:
+        """The tree from the roots down, at most so many tasks, by matplotlib, as `memplan.plot.tree` draws it.
+
+        >>> FIVE.plot(name="five.tree").get_title(loc="left")
+        'tree of five.tree, from the roots down: 5 of 5 are drawn'
+        """
+        from . import plot
+
+        return plot.tree(self, ax, most=most, unit=unit, name=name)
 
     # Matrices
 

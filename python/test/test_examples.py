@@ -5,6 +5,7 @@ from __future__ import annotations
 import doctest
 import importlib
 import inspect
+import os
 import re
 import tempfile
 import unittest
@@ -20,13 +21,28 @@ except ImportError:
     networkx = None
 
 try:
+    import dask
+except ImportError:
+    dask = None
+
+try:
     import scipy.sparse
 except ImportError:
     scipy = None
 
+try:
+    import matplotlib
+except ImportError:
+    matplotlib = None
+else:
+    matplotlib.use("Agg")
+    from matplotlib import pyplot
+    from memplan import plot
+
 TOP = Path(__file__).resolve().parents[2]
-MODULES = ["_refusals", "_texts", "_work", "graphs", "results", "trees", "workflows"]
-CLASSES = [memplan.Tree, memplan.Graph, memplan.Workflow, memplan.Plan, memplan.Fences, memplan.Simulation]
+MODULES = ["_refusals", "_texts", "_work", "graphs", "results", "trees", "workflows", *(["plot"] if matplotlib else [])]
+CLASSES = [memplan.Tree, memplan.Graph, memplan.Workflow, memplan.Plan, memplan.Fences, memplan.Simulation, memplan.Segments]
+PICTURES = ("plot.", ".plot(", ".report(")
 
 FIVE = Tree([2, 5, 4, 5, 0], [1, 5, 1, 5, 0], [9, 0, 9, 0, 0], names=["a", "b", "c", "d", "top"])
 DIAMOND = Graph.of_mapping(
@@ -46,9 +62,15 @@ class Examples(unittest.TestCase):
     def run_examples(self, test: doctest.DocTest) -> None:
         if networkx is None and "networkx" in (test.docstring or ""):
             self.skipTest("there is no networkx")
+        if dask is None and "dask" in (test.docstring or ""):
+            self.skipTest("there is no dask")
+        if matplotlib is None and any(it in (test.docstring or "") for it in PICTURES):
+            self.skipTest("there is no matplotlib")
         said: Any = []
         runner = doctest.DocTestRunner(verbose=False)
         runner.run(test, out=said.append)
+        if matplotlib is not None:
+            pyplot.close("all")
         self.assertEqual(runner.failures, 0, "".join(said))
 
     def test_each_public_method_has_an_example(self) -> None:
@@ -56,11 +78,16 @@ class Examples(unittest.TestCase):
             self.assertIn(">>> " if kind in (memplan.Tree, memplan.Graph, memplan.Workflow) else "", kind.__doc__ or "")
             for name, value in public(kind):
                 self.assertIn(">>> ", value.__doc__ or "", name)
+        if matplotlib is not None:
+            for name in plot.__all__:
+                self.assertIn(">>> ", getattr(plot, name).__doc__, name)
 
     def test_they_say_what_is_so(self) -> None:
         with tempfile.TemporaryDirectory() as folder:
             given: Dict[str, Any] = {**vars(memplan), "FIVE": FIVE, "DIAMOND": DIAMOND, "FOLDER": Path(folder)}
             given.update(EXAMPLES=TOP / "examples", networkx=networkx, Item=Item, Join=Join)
+            if matplotlib is not None:
+                given["plot"] = plot
             count = 0
             for name in MODULES:
                 module = importlib.import_module(f"memplan.{name}")
@@ -78,7 +105,13 @@ class Examples(unittest.TestCase):
         page = (TOP / "docs/PYTHON.md").read_text(encoding="utf-8")
         blocks = re.findall(r"```python\n(.*?)```", page, re.DOTALL)
         self.assertGreater(len(blocks), 3)
-        self.run_examples(doctest.DocTestParser().get_doctest("\n".join(blocks), {}, "docs/PYTHON.md", None, 0))
+        with tempfile.TemporaryDirectory() as folder:  # where it writes its files
+            before = os.getcwd()
+            os.chdir(folder)
+            try:
+                self.run_examples(doctest.DocTestParser().get_doctest("\n".join(blocks), {}, "docs/PYTHON.md", None, 0))
+            finally:
+                os.chdir(before)
 
 
 if __name__ == "__main__":

@@ -1,10 +1,10 @@
-"""Orders: of plans, of reports of `post`, of order files; and whether one fits a system."""
+"""Orders: of plans, of reports of `post`, of order files; and whether one fits a read."""
 import json
 from typing import NamedTuple, Optional
 
 import numpy as np
 
-from .system import TASK_LIMIT, System
+from .system import TASK_LIMIT, Read
 from .text import TOO_LARGE, Refusal, Text, text_of
 
 ORDER = "an order: a plan, what `post` prints, or the numbers of tasks"
@@ -71,13 +71,13 @@ def order_of_json(text: Text) -> Order:
     return Order(text.name, np.array(capped, np.int64), None)
 
 
-def order_by_number(system: System) -> Order:
-    return Order("1..n", np.arange(1, system.count + 1), None)
+def order_by_number(read: Read) -> Order:
+    return Order("1..n", np.arange(1, read.count + 1), None)
 
 
-def expect_traversal(system: System, order: Order) -> None:
+def expect_traversal(read: Read, order: Order) -> None:
     """Refuses an order that is no traversal, at its first fault."""
-    numbers, count = order.numbers, system.count
+    numbers, count = order.numbers, read.count
     length = len(numbers)
     places = np.arange(length)
     is_known = (1 <= numbers) & (numbers <= count)
@@ -87,25 +87,25 @@ def expect_traversal(system: System, order: Order) -> None:
     firsts[known[::-1]] = places[::-1]
     is_repeated = is_known & (firsts[known] != places)
     is_early = np.zeros(length + 1, bool)
-    is_early[firsts[system.takers[firsts[system.makers] > firsts[system.takers]]]] = True
+    is_early[firsts[read.takers[firsts[read.makers] > firsts[read.takers]]]] = True
     faults = np.flatnonzero(~is_known | is_repeated | is_early[:-1])
     if not faults.size:
         if length < count:
             lacking = int(np.flatnonzero(firsts[1:] == length)[0]) + 1
-            told = f"expected the {count} tasks of {system.name}; found {length}"
+            told = f"expected the {count} tasks of {read.name}; found {length}"
             raise Refusal(order.name, f"{told}, and {lacking} is not among them")
         return
     at = int(faults[0])
     task = int(numbers[at])
     if not is_known[at]:
         stated = "a number far too great" if task == TOO_LARGE else str(task)
-        told = f"expected a task of {system.name}, from 1 to {count}; found {stated}"
+        told = f"expected a task of {read.name}, from 1 to {count}; found {stated}"
     elif is_repeated[at]:
         told = f"expected each task once; found {task} a second time"
     else:
-        makers = system.makers[system.takers == task]
+        makers = read.makers[read.takers == task]
         maker = int(makers[firsts[makers] > at][0])
-        told = f"expected task {maker} of {system.name} before {task}, which takes up what it makes"
+        told = f"expected task {maker} of {read.name} before {task}, which takes up what it makes"
     if order.lines is None:
         raise Refusal(order.name, f"{told}, at place {at + 1} of the order")
     raise Refusal(order.name, told, int(order.lines[at]))

@@ -1,47 +1,14 @@
-"""Simulated runs: who works when, over used and booked memory."""
-import argparse
-import heapq
-from typing import NamedTuple, Optional
+"""Simulated runs, from what `simulate` prints."""
+from typing import NamedTuple
 
 import numpy as np
-from matplotlib import pyplot
-from matplotlib.axes import Axes
-from matplotlib.colors import to_rgb
-from matplotlib.ticker import FixedLocator, MaxNLocator
+from memplan import Simulation
+from memplan._plot_run import ACTIVATE, FINISH, START, WORDS, Events, firsts_of, levels_of
 
-from .look import (
-    BLUE,
-    COLOURS,
-    DASHES,
-    MOST_NAMED,
-    MOST_STEPS,
-    RED,
-    SKY,
-    Steps,
-    count_axis,
-    draw_levels,
-    draw_peak,
-    grouped,
-    in_columns,
-    note_below,
-    save,
-    short_name,
-)
-from .system import System
-from .text import TOO_LARGE, Refusal, Text, text_of
+from .system import Read
+from .text import TOO_LARGE, Refusal, text_of
 
 REPORT = "what `simulate` prints, whose first line is 'makespan' and a number"
-WORDS = ("activate", "start", "finish")
-ACTIVATE, START, FINISH = range(3)
-
-# How many bars are drawn one by one: of more, a column shows how much of its time a worker is busy.
-MOST_BARS = 1000
-# A bar has an edge where it is at least this part of the run; a narrower one would be all edge.
-EDGED = 1 / 60
-# How many workers have a row each: of more, those beside each other are put together.
-MOST_ROWS = 250
-# How dark a bar is, so that a number in it can be read.
-OPACITY = 0.55
 
 
 class Run(NamedTuple):
@@ -54,6 +21,10 @@ class Run(NamedTuple):
     times: np.ndarray
     words: np.ndarray
     tasks: np.ndarray
+
+    @property
+    def events(self) -> Events:
+        return Events(self.times, self.words, self.tasks)
 
 
 def run_of(name: str) -> Run:
@@ -77,195 +48,41 @@ def run_of(name: str) -> Run:
     return Run(text.name, makespan, used, booked, times, np.argmax(are, axis=0), tasks)
 
 
-class Bars(NamedTuple):
-    """The tasks as they ran: from when to when, and on which worker, from 0; task 1 comes first."""
-
-    starts: np.ndarray
-    ends: np.ndarray
-    workers: np.ndarray
-
-    @property
-    def count_of_workers(self) -> int:
-        return int(self.workers.max(initial=0)) + 1
-
-
-def refuse_run(run: Run, system: System, event: int) -> None:
+def refuse_run(run: Run, read: Read, event: int) -> None:
     told = f"{run.times[event]} {WORDS[run.words[event]]} {run.tasks[event]}"
-    expected = f"expected a run of {system.name}, each task activated, started and finished once"
+    expected = f"expected a run of {read.name}, each task activated, started and finished once"
     raise Refusal(run.name, f"{expected}, its time later; found '{told}'", 5 + event)
 
 
-def bars_of(run: Run, system: System) -> Bars:
-    """The tasks of a run, which is one of this system."""
-    count = system.count
+def expect_run(run: Run, read: Read) -> None:
+    """Refuses what is no run of these tasks, at its first wrong event."""
+    count = read.count
     if (wrong := (run.tasks < 1) | (run.tasks > count)).any():
-        refuse_run(run, system, int(np.argmax(wrong)))
-    # the first event of each task with each word
-    events = np.arange(len(run.times))
-    firsts = np.full((3, count), len(run.times))
-    firsts[run.words[::-1], run.tasks[::-1] - 1] = events[::-1]
-    if (again := firsts[run.words, run.tasks - 1] != events).any():
-        refuse_run(run, system, int(np.argmax(again)))
-    if len(events) != 3 * count:
-        told = f"expected {3 * count} events, as {system.name} has {count} tasks"
-        raise Refusal(run.name, f"{told}; found {len(events)}", 4)
-    starts, ends = run.times[firsts[START]], run.times[firsts[FINISH]]
+        refuse_run(run, read, int(np.argmax(wrong)))
+    firsts = firsts_of(run.events, count)
+    if (again := firsts[run.words, run.tasks - 1] != np.arange(len(run.times))).any():
+        refuse_run(run, read, int(np.argmax(again)))
+    if len(run.times) != 3 * count:
+        told = f"expected {3 * count} events, as {read.name} has {count} tasks"
+        raise Refusal(run.name, f"{told}; found {len(run.times)}", 4)
+    lengths = run.times[firsts[FINISH]] - run.times[firsts[START]]
     is_right = (firsts[ACTIVATE] < firsts[START]) & (firsts[START] < firsts[FINISH])
-    if not (is_right := is_right & (ends - starts == system.times)).all():
-        refuse_run(run, system, int(firsts[FINISH, np.argmin(is_right)]))
-    return Bars(starts, ends, workers_of(run, count))
+    if not (is_right := is_right & (lengths == read.system.times)).all():
+        refuse_run(run, read, int(firsts[FINISH, np.argmin(is_right)]))
 
 
-def workers_of(run: Run, count: int) -> np.ndarray:
-    """A report names no worker: each task takes the free one of least number."""
-    free: list[int] = []
-    workers, most = [0] * count, 0
-    is_counted = run.words != ACTIVATE
-    is_start = (run.words[is_counted] == START).tolist()
-    for starts, task in zip(is_start, (run.tasks[is_counted] - 1).tolist()):
-        if not starts:
-            heapq.heappush(free, workers[task])
-        elif free:
-            workers[task] = heapq.heappop(free)
-        else:
-            workers[task] = most
-            most += 1
-    return np.array(workers, np.int64)
-
-
-class Levels(NamedTuple):
-    """Memory after each event, and before the first: how much is used, and how much booked."""
-
-    used: np.ndarray
-    booked: np.ndarray
-
-
-def levels_of(system: System, run: Run) -> Levels:
-    needs, gains = system.needs[run.tasks - 1], system.gains[run.tasks - 1]
-    is_finish = run.words == FINISH
-    used = np.where(is_finish, gains - needs, np.where(run.words == START, needs, 0))
-    booked = np.where(is_finish, gains - needs, np.where(run.words == ACTIVATE, needs, 0))
-    return Levels(*(system.first + np.append(0, np.cumsum(them)) for them in (used, booked)))
-
-
-def expect_levels(levels: Levels, system: System, run: Run) -> None:
+def expect_levels(run: Run, read: Read) -> None:
+    levels = levels_of(read.system, run.events)
     for line, (word, them) in enumerate(zip(("used", "booked"), levels), 2):
         stated, found = getattr(run, word), int(them.max())
         if stated != found:
-            told = f"expected a run of {system.name}, with '{word} {found}'; found {stated}"
+            told = f"expected a run of {read.name}, with '{word} {found}'; found {stated}"
             raise Refusal(run.name, told, line)
 
 
-def at_moments(levels: Levels, run: Run) -> tuple[Steps, Steps]:
-    """Of each moment its last level: finishes come first, and they only free memory."""
-    times = np.append(0, run.times)
-    is_last = np.append(times[1:] != times[:-1], True)
-    # what is there from the last moment on has no width
-    return tuple(Steps(times[is_last], them[is_last][:-1]) for them in levels)
-
-
-def busy_shares(bars: Bars, makespan: int, columns: int) -> np.ndarray:
-    """For each worker and each of so many columns of one width: how much of it the worker works."""
-    edges = np.linspace(0, makespan, columns + 1)
-    order = np.lexsort((bars.starts, bars.workers))
-    lasts = np.cumsum(np.bincount(bars.workers, minlength=bars.count_of_workers))
-    shares = np.empty((len(lasts), columns))
-    for worker, mine in enumerate(np.split(order, lasts[:-1])):
-        starts, ends = bars.starts[mine], bars.ends[mine]
-        done = np.append(0, np.cumsum(ends - starts))
-        # how long it has worked, at each start and each end
-        corners = np.column_stack((starts, ends)).ravel()
-        worked = np.column_stack((done[:-1], done[1:])).ravel()
-        shares[worker] = np.diff(np.interp(edges, corners, worked)) / np.diff(edges)
-    return np.clip(shares, 0, 1)
-
-
-def draw_columns(axes: Axes, bars: Bars, makespan: int) -> None:
-    """Each worker as a row of columns, the darker the more it works."""
-    shares = busy_shares(bars, makespan, MOST_STEPS)
-    count = len(shares)
-    shade = 1 - OPACITY * (1 - np.array(to_rgb(BLUE)))
-    is_apart = count <= MOST_NAMED
-    if count > MOST_ROWS:
-        cuts = count * np.arange(MOST_ROWS + 1) // MOST_ROWS
-        shares = np.add.reduceat(shares, cuts[:-1]) / np.diff(cuts)[:, None]
-    pixels = np.rint(255 * (1 + shares[:, :, None] * (shade - 1))).astype(np.uint8)
-    if not is_apart:
-        axes.imshow(pixels, extent=(0, makespan, count + 0.5, 0.5), aspect="auto")
-        return
-    for worker, row in enumerate(pixels, 1):
-        extent = (0, makespan, worker + 0.4, worker - 0.4)
-        axes.imshow(row[None], extent=extent, aspect="auto")
-
-
-def draw_bars(axes: Axes, bars: Bars, makespan: int) -> None:
-    """Each task as a bar; where they are few with an edge, and its number where that has room."""
-    count = len(bars.starts)
-    is_named = count <= MOST_NAMED
-    palette = COLOURS if is_named else (BLUE, SKY)
-    lengths = bars.ends - bars.starts
-    look = {
-        "color": [palette[task % len(palette)] for task in range(1, count + 1)],
-        "edgecolor": "white",
-        "linewidth": np.where(is_named & (lengths >= EDGED * makespan), 1.0, 0.0),
-        "alpha": OPACITY,
-        "height": 0.8,
-    }
-    axes.barh(bars.workers + 1, lengths, left=bars.starts, **look)
-    if is_named:
-        middles = (bars.starts + bars.ends) / 2
-        for task, (middle, worker) in enumerate(zip(middles, bars.workers), 1):
-            axes.text(middle, worker + 1, str(task), ha="center", va="center", fontsize=9)
-
-
-def draw_workers(axes: Axes, bars: Bars, makespan: int) -> None:
-    draw = draw_bars if len(bars.starts) <= MOST_BARS else draw_columns
-    draw(axes, bars, makespan)
-    count = bars.count_of_workers
-    axes.set_ylim(count + 0.6, 0.4)
-    axes.set_ylabel("worker")
-    few = FixedLocator(range(1, count + 1))
-    axes.yaxis.set_major_locator(few if count <= 8 else MaxNLocator(nbins=8, integer=True))
-
-
-def draw_used_and_booked(
-    axes: Axes, used: Steps, booked: Steps, bound: Optional[int], unit: str
-) -> None:
-    draw_levels(axes, used, color=BLUE, alpha=0.5, label="used")
-    if len(used.levels):
-        draw_peak(axes, used, BLUE)
-        times, levels = in_columns(booked)
-        axes.stairs(levels, times, baseline=None, color=RED, linewidth=1.4, label="booked")
-    if bound is not None:
-        axes.axhline(bound, color="black", linewidth=1, linestyle=DASHES, label="bound")
-    highest = max(booked.levels.max(initial=1), bound or 0)
-    axes.set_ylim(0, 1.12 * highest)
-    axes.set_ylabel(f"memory ({unit})")
-    axes.set_xlabel("time")
-    if axes.get_legend_handles_labels()[0]:
-        axes.legend(loc="upper left", bbox_to_anchor=(1.0, 1.0))
-    count_axis(axes.yaxis, highest)
-    count_axis(axes.xaxis, booked.times[-1])
-
-
-def draw_run(words: argparse.Namespace, system: System) -> None:
-    run = run_of(words.report)
-    bars = bars_of(run, system)
-    levels = levels_of(system, run)
-    expect_levels(levels, system, run)
-    count = bars.count_of_workers
-    rows_high = min(0.45 * count, 3) + 0.5
-    figure, (above, below) = pyplot.subplots(
-        2, 1, figsize=(8, rows_high + 2.7), sharex=True, height_ratios=(rows_high, 2)
-    )
-    draw_workers(above, bars, run.makespan)
-    draw_used_and_booked(below, *at_moments(levels, run), words.bound, words.unit)
-    below.set_xlim(0, max(run.makespan, 1))
-    tasks = f"{grouped(system.count)} tasks, at most {grouped(count)} at once"
-    figure.suptitle(f"run of {short_name(system.name)}: {tasks}", x=0.01, ha="left")
-    most = f"most used {grouped(run.used)} · most booked {grouped(run.booked)} {words.unit}"
-    above.set_title(f"makespan {grouped(run.makespan)} · {most}")
-    if system.count > MOST_BARS:
-        note_below(figure, "a worker is the darker the more of the time of a column it works")
-    figure.tight_layout()
-    save(figure, words.picture)
+def simulation_of(name: str, read: Read) -> Simulation:
+    run = run_of(name)
+    expect_run(run, read)
+    expect_levels(run, read)
+    words = [WORDS[word] for word in run.words.tolist()]
+    return Simulation(run.makespan, run.used, run.booked, run.times, words, run.tasks)

@@ -1,8 +1,8 @@
-"""Trees and workflows as systems: tasks with what they need, and who takes what from whom."""
-from collections.abc import Iterator
+"""Trees and workflows, read from files and judged, as what memplan.plot draws."""
 from typing import NamedTuple
 
 import numpy as np
+from memplan._systems import System, ends_of_items, of_ends, of_tree, sums
 
 from .text import Text, text_of
 
@@ -13,24 +13,21 @@ TREE = "a tree file, whose first line is 'tree 1' or 'tree 2'"
 WORKFLOW = "a workflow file, whose first line is 'workflow 1' or 'workflow 2'"
 
 
-class System(NamedTuple):
-    """What is drawn of a tree or a workflow; the arrays of tasks begin with task 1."""
+class Read(NamedTuple):
+    """What a file has, and who makes something and who takes it up, numbers of tasks from 1."""
 
     name: str
-    # memory before the first task
-    first: int
-    # what a task needs while it runs beside what is there, by how much it changes memory, how long
-    # it runs
-    needs: np.ndarray
-    gains: np.ndarray
-    times: np.ndarray
-    # the ends of each item, numbers from 1: the task that makes it and the one that takes it up
+    system: System
     makers: np.ndarray
     takers: np.ndarray
 
     @property
     def count(self) -> int:
-        return len(self.needs)
+        return self.system.task_count
+
+
+def read_as(name: str, system: System) -> Read:
+    return Read(name, system, *system.arcs())
 
 
 class Tree(NamedTuple):
@@ -57,13 +54,6 @@ def version_of(text: Text, word: str, expected: str) -> int:
     if head not in ([word.encode(), b"1"], [word.encode(), b"2"]):
         text.refuse(0, expected)
     return int(head[1])
-
-
-def sums(count: int, places: np.ndarray, amounts: np.ndarray) -> np.ndarray:
-    """What the amounts at each of so many places are together."""
-    found = np.zeros(count, np.int64)
-    np.add.at(found, places, amounts)
-    return found
 
 
 def expect_total(text: Text, rows: np.ndarray, sizes: np.ndarray) -> None:
@@ -106,20 +96,10 @@ def lead_to_root(parents: np.ndarray) -> np.ndarray:
     return above[1:] == 0
 
 
-def system_of_tree(name: str) -> System:
+def system_of_tree(name: str) -> Read:
     tree = tree_of(name)
-    count = len(tree.parents)
-    taken = sums(count + 1, tree.parents, tree.outs)[1:]
-    has_parent = tree.parents > 0
-    return System(
-        tree.name,
-        0,
-        tree.extras + tree.outs - tree.shares,
-        tree.outs - taken,
-        tree.times,
-        np.flatnonzero(has_parent) + 1,
-        tree.parents[has_parent],
-    )
+    system = of_tree(tree.parents, tree.outs, tree.extras, tree.shares, tree.times)
+    return read_as(tree.name, system)
 
 
 class Positions(NamedTuple):
@@ -173,46 +153,7 @@ def expect_one_term(text: Text, it: Positions) -> None:
         text.refuse(2 + len(heights), "one term at the end, not none or several")
 
 
-def items_in(nested) -> Iterator[int]:
-    """The items of lists in lists."""
-    left = [nested]
-    while left:
-        it = left.pop()
-        if isinstance(it, int):
-            yield it
-        else:
-            left.extend(it)
-
-
-def ends_of_items(it: Positions) -> tuple[np.ndarray, np.ndarray]:
-    """For each datum the task that makes it and the one that takes it up, or 0."""
-    makers = [0] * int(it.is_data.sum())
-    takers = makers.copy()
-    item = task = 0
-    # of each term on the stack the items that are there at its start, and those at its end: a
-    # number, or lists in lists, since to join them would take the square of their number
-    stack: list[tuple] = []
-    for is_data, is_task, amount in zip(*(them.tolist() for them in it[:3])):
-        if is_data:
-            stack.append((item, item))
-            item += 1
-        elif is_task:
-            task += 1
-            made, last = stack.pop()
-            first, taken = stack.pop()
-            for one in items_in(taken):
-                takers[one] = task
-            for one in items_in(made):
-                makers[one] = task
-            stack.append((first, last))
-        else:
-            parts = stack[-amount:]
-            del stack[-amount:]
-            stack.append(tuple(zip(*parts)))
-    return np.array(makers, np.int64), np.array(takers, np.int64)
-
-
-def system_of_workflow(name: str) -> System:
+def system_of_workflow(name: str) -> Read:
     text = text_of(name, WORKFLOW)
     version = version_of(text, "workflow", WORKFLOW)
     count = tasks_of(text, "tasks")
@@ -224,18 +165,15 @@ def system_of_workflow(name: str) -> System:
     expect_one_term(text, it)
     if (found := int(it.is_task.sum())) != count:
         text.refuse(last, f"{count} tasks before the end, as line 2 of the file says, not {found}")
-    makers, takers = ends_of_items(it)
+    words = np.where(it.is_data, "data", np.where(it.is_task, "task", "par"))
+    ends = ends_of_items(list(zip(words.tolist(), it.amounts.tolist())), count)
+    makers, takers = (np.array(them, np.int64) for them in ends)
     sizes = it.amounts[it.is_data]
-    made, taken = (sums(count + 1, ends, sizes)[1:] for ends in (makers, takers))
+    made, taken = (sums(count + 1, them, sizes)[1:] for them in (makers, takers))
     extras, shares = it.amounts[it.is_task], it.shares[it.is_task]
-    first = int(sizes[makers == 0].sum())
-    is_between = (makers > 0) & (takers > 0)
     is_share = shares <= np.minimum(taken, extras + made)
     told = "a share of at most what the task takes up, and of at most its extra and what it makes"
     if not is_share.all():
         text.refuse(2 + int(np.flatnonzero(it.is_task)[np.argmin(is_share)]), told)
-    needs, gains = extras + made - shares, made - taken
-    times = it.times[it.is_task]
-    return System(
-        text.name, first, needs, gains, times, makers[is_between], takers[is_between]
-    )
+    system = of_ends(sizes, makers, takers, extras, shares, it.times[it.is_task])
+    return read_as(text.name, system)

@@ -71,6 +71,14 @@ graph = Tasks([0, 0], [(10, None, {1, 2}), (3, 1, [2])])
 fences: Fences = graph.fence([1, 2], bound=13, workers=None)
 workflow: Workflow = graph.reduce()
 mapped = Tasks.of_mapping({"load": [], "count": ["load"]}, size={"load": 3, "count": 4})
+of_dask: Tasks = Tasks.from_dask({"load": 1}, sizes=lambda key: (3, 1))
+planned.plot(by="time", bound=15).figure.savefig("plan.png")
+above, below = ran.plot(unit="MB")
+tree.plot(most=7)
+planned.report("report.html", bounds=[11, 15], workers=(2, 4))
+planned.plot(by="hours")  # refused
+planned.report()  # refused
+Tasks.from_dask({"load": 1}, sizes=3)  # refused
 Tree.of_mapping({"load": None}, out={"load": 3.5})  # refused
 Tree([0], out=[1])  # refused
 graph.fence([1, 2])  # refused
@@ -185,13 +193,15 @@ class Wheel(unittest.TestCase):
         lines = [f"{name},sha256={sums[name]},{len(it)}" for name, it in files.items() if name != record]
         self.assertEqual(files[record].decode().splitlines(), [*lines, f"{record},,"])
 
-    def test_the_extra_is_the_version_that_was_tried(self) -> None:
+    def test_the_extras_are_what_was_tried(self) -> None:
         runner = (TOP / "integrations/dask/memplan_dask/versions.py").read_text(encoding="utf-8")
         (tried,) = re.findall(r'^TRIED = "(.*)"$', runner, re.MULTILINE)
         lines = self.files()[f"memplan-{VERSION}.dist-info/METADATA"].decode().splitlines()
-        self.assertEqual([it for it in lines if it.startswith("Provides-Extra:")], ["Provides-Extra: dask"])
+        self.assertEqual([it for it in lines if it.startswith("Provides-Extra:")], ["Provides-Extra: dask", "Provides-Extra: plot"])
         asked = [it for it in lines if it.startswith("Requires-Dist:")]
-        self.assertEqual(asked, [f"Requires-Dist: {name} == {tried} ; extra == 'dask'" for name in ("dask", "distributed")])
+        wanted = [f"Requires-Dist: {name} == {tried} ; extra == 'dask'" for name in ("dask", "distributed")]
+        wanted += [f"Requires-Dist: {name} ; extra == 'plot'" for name in ("matplotlib >= 3.6", "numpy >= 1.20")]
+        self.assertEqual(asked, wanted)
 
     def test_it_is_removed_whole(self) -> None:
         self.pip("uninstall", "--yes", "memplan")
