@@ -197,8 +197,9 @@ def keeps_its_bound_where_memory_is_released_late(client: Client) -> None:
 
 
 def would_pass_its_bound_if_tasks_finished_when_futures_are_done(client: Client) -> None:
-    top, bound = top_of_late_release(HastyRun, client)
-    assert top > bound, "the case is no case of a late release"
+    # Whether the release comes late is a race, which a busy machine may decide otherwise once; that it can is what is shown.
+    runs = (top_of_late_release(HastyRun, client) for _ in range(5))
+    assert any(top > bound for top, bound in runs), "the case is no case of a late release"
 
 
 # What ends a run
