@@ -1,8 +1,10 @@
 pub mod EntryLemmas
 pub mod FileLemmas
 pub mod InverseFileLemmas
+pub mod ListingLemmas
 pub mod OrderReaderLaws
 pub mod PermFileLemmas
 pub mod PrintedPerm
 pub mod ReaderLaws
 pub mod ReadingLemmas
+pub mod TokenLemmas

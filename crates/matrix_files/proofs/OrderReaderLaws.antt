@@ -13,8 +13,9 @@ use Rattle.mp_text.specs.Text.{Row}
 use Rattle.mp_text.specs.Grammar.{Test, test, tests_of_all, first_failure, ArePassed, fault, fault_at}
 use Rattle.mp_text.specs.Reading.{tested, steps_of_all, Follows}
 use Rattle.mp_text.specs.ReadingLaws.{Follows-weaker, tested-follows, Follows-steps_of_all}
+use Rattle.file_frame.specs.Frame.{is_end}
 use Rattle.matrix_files.specs.OrderFile.{value_of, tokens_of_rows, numbers_stated, order_token_tests, plain_tests, peak_tests, count_on}
-use Rattle.matrix_files.specs.OrderFile.{count_tests, is_end, listed_tests, list_tests, report_tests, is_ended, numbers_listed, is_report}
+use Rattle.matrix_files.specs.OrderFile.{count_tests, listed_tests, list_tests, report_tests, is_ended, numbers_listed, is_report}
 use Rattle.matrix_files.specs.OrderFile.{order_format, tasks_stated}
 use Rattle.matrix_files.specs.PermFile.{counted, perm_token_tests, perm_count_tests, numbering_format}
 use Rattle.matrix_files.specs.OrderReader.{OrderState, with_task, number_step, listed_step, numbers_step, start_step, list_step}
@@ -33,7 +34,7 @@ pub tokens-push : (rows : List Row) (row : Row) → tokens_of_rows (rows ++ row 
 tokens-push rows row = flat_map-append (λ (r : Row). r.tokens) rows (row ∷ [])
     ∙ ap (λ (ts : List (List ℕ)). tokens_of_rows rows ++ ts) (append-nil row.tokens)
 
-tokens_follow : {K S : Type 0} (tests : List (List ℕ) → List ℕ → List (Test K))
+pub tokens_follow : {K S : Type 0} (tests : List (List ℕ) → List ℕ → List (Test K))
     (P : S → List (List ℕ) → Type 0) (step : S → List ℕ → Result S (Refusal K))
     → ((s : S) (before : List (List ℕ)) (token : List ℕ) → P s before
     → Follows (tests before token) (λ next. P next (before ++ token ∷ [])) (step s token))

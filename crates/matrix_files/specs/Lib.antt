@@ -1,5 +1,7 @@
 pub mod InverseFile
 pub mod Kinds
+pub mod ListingFile
+pub mod ListingReader
 pub mod MatrixFile
 pub mod OrderFile
 pub mod OrderKinds

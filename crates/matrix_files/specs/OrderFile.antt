@@ -1,8 +1,8 @@
 -- Order files: task numbers, the tokens of all lines in order, or a report that states an order, as `post` prints it. What a file reads as,
 -- and what it is refused with.
 use Rattle.std.specs.Prelude.{◌≡◌, ◌==◌, ℕ, ◌+◌, ◌^◌, Bool, false, ◌&&◌, nat_lt, nat_le, is_some, unwrap_or, if◌then◌else◌}
-use Rattle.std.specs.Prelude.{Option, None, List, [], ◌∷◌, ◌++◌, length, map, take, codes}
-use Rattle.std.specs.Cmp.Lexicographic.{pointwise}
+use Rattle.std.specs.Prelude.{Option, List, [], ◌∷◌, ◌++◌, length, map, take, codes}
+use Rattle.std.specs.Option.{option_and_then}
 use Rattle.std.specs.List.{flat_map}
 use Rattle.std.specs.Str.{bytes_eq}
 use Rattle.limits.specs.declared.name.LimitName.TheVariants as limits
@@ -14,6 +14,8 @@ use Rattle.mp_text.specs.Text.{Row, number_of}
 use Rattle.mp_text.specs.Ahead.{rows_of_bytes, past_of_bytes}
 use Rattle.mp_text.specs.Grammar.{Test, test, tests_of_all, Format, IsWellFormed, Refuses, fault, fault_at, token_at}
 use Rattle.mp_text.specs.Reading.{IsRefusal}
+use Rattle.file_frame.specs.Words.{after_word}
+use Rattle.file_frame.specs.Frame.{is_end}
 use Rattle.matrix_files.specs.declared.order_file.OrderFileKind.{OrderFileKind}
 use Rattle.matrix_files.specs.declared.order_file.OrderFileKind.TheVariants.{Number, Header, Count, NoEnd}
 
@@ -47,9 +49,8 @@ numbers_stated rows = map value_of (tokens_of_rows rows)
 -- ---- a report: `peak P`, `order N`, N numbers, `end`
 
 -- the number after a word, where the line has nothing else
-unfoldable pub number_after : List ℕ → List (List ℕ) → Option ℕ
-number_after word (first ∷ second ∷ []) = if bytes_eq first word then number_of second else None
-number_after word _ = None
+abbrev pub number_after : List ℕ → List (List ℕ) → Option ℕ
+number_after word tokens = option_and_then number_of (after_word word tokens)
 
 abbrev pub peak_tests : Row → List (Test OrderFileKind)
 peak_tests row = test (is_some (number_after (codes "peak") row.tokens)) (fault Header row) ∷ []
@@ -63,10 +64,6 @@ count_tests row =
     test (is_some (number_after (codes "order") row.tokens)) (fault Header row)
     ∷ test (nat_le (count_on row) most_tasks) (refusals.Limit limits.Tasks)
     ∷ []
-
--- a line `end`
-abbrev pub is_end : Row → Bool
-is_end row = pointwise bytes_eq row.tokens (codes "end" ∷ [])
 
 -- not one number more than there are to be, each below 2^32; after so many tokens
 abbrev pub listed_tests : ℕ → ℕ → ℕ → List ℕ → List (Test OrderFileKind)

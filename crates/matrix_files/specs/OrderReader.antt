@@ -7,10 +7,11 @@ use Rattle.mp_text.specs.declared.refusals.Refusal.{Refusal}
 use Rattle.mp_text.specs.declared.refusals.Refusal.TheVariants as refusals
 use Rattle.mp_text.specs.Text.{Row}
 use Rattle.mp_text.specs.Ahead.{rows_of_bytes, past_of_bytes}
-use Rattle.mp_text.specs.Grammar.{test, IsWellFormed, Refuses, fault, fault_at}
+use Rattle.mp_text.specs.Grammar.{test, Format, IsWellFormed, Refuses, fault, fault_at}
 use Rattle.mp_text.specs.Reading.{tested, steps_of_all}
+use Rattle.file_frame.specs.Frame.{is_end}
 use Rattle.matrix_files.specs.OrderFile.{value_of, tokens_of_rows, order_token_tests, is_report, peak_tests, count_on, count_tests}
-use Rattle.matrix_files.specs.OrderFile.{is_end, listed_tests}
+use Rattle.matrix_files.specs.OrderFile.{listed_tests}
 use Rattle.permutations.specs.Perm.{PermState}
 use Rattle.matrix_files.specs.PermFile.{counted, perm_token_tests, perm_count_tests, numbering_format}
 use Rattle.matrix_files.specs.declared.order_file.OrderFileKind.{OrderFileKind}
@@ -137,8 +138,8 @@ pub record ReadsNumbering (base n : ℕ) (bytes numbers : List ℕ) : Type 0 whe
   pub form : IsWellFormed (numbering_format base n) (rows_of_bytes Commented bytes) (past_of_bytes bytes)
   pub stated : numbers ≡ map (counted base) (tokens_of_rows (rows_of_bytes Commented bytes))
 
-abbrev pub IsNumberingRefusal : ℕ → ℕ → List ℕ → Refusal PermKind → Type 0
-IsNumberingRefusal base n bytes refusals.NoMemory = Unit {0}
-IsNumberingRefusal base n bytes (refusals.Format f) =
-    Refuses (numbering_format base n) (rows_of_bytes Commented bytes) (past_of_bytes bytes) (refusals.Format f)
-IsNumberingRefusal base n bytes (refusals.Limit l) = ⊥
+-- an answer that is no numbers: a refusal by a format, which is never a limit, or memory ran out
+abbrev pub IsFormatRefusal : Format PermKind → List ℕ → Refusal PermKind → Type 0
+IsFormatRefusal format bytes refusals.NoMemory = Unit {0}
+IsFormatRefusal format bytes (refusals.Format f) = Refuses format (rows_of_bytes Commented bytes) (past_of_bytes bytes) (refusals.Format f)
+IsFormatRefusal format bytes (refusals.Limit l) = ⊥

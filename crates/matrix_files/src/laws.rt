@@ -2,16 +2,16 @@
 
 ghost use Rattle.std.specs.Prelude.{◌≡◌, ◌⊎◌, ◌≤◌, ℕ, List, [], ◌∷◌, decimal, length, map};
 ghost use Rattle.limits.specs.Limits.{most_bytes, most_order};
-ghost use Rattle.lists.specs.Numbers.{from_one, number_at};
+ghost use Rattle.lists.specs.Numbers.{number_at};
 ghost use Rattle.mp_text.specs.declared.layout.Layout.TheVariants.{Commented};
 ghost use Rattle.mp_text.specs.Ahead.{rows_of_bytes};
 ghost use Rattle.mp_text.specs.Report.{text_of_lines};
 ghost use Rattle.mp_text.specs.declared.refusals.Refusal.{Refusal};
 ghost use Rattle.permutations.specs.Perm.{IsPerm, IsVertex, place_of};
 ghost use Rattle.matrix_files.specs.MatrixFile.{ReadsPattern, RefusesPattern};
-ghost use Rattle.matrix_files.specs.OrderFile.{ReadsOrder, RefusesOrder, numbers_stated};
+ghost use Rattle.matrix_files.specs.OrderFile.{ReadsOrder, RefusesOrder};
 ghost use Rattle.matrix_files.specs.PermFile.{ReadsPerm, RefusesPerm};
-ghost use Rattle.matrix_files.specs.InverseFile.{base_stated, ReadsInverse, RefusesInverse};
+ghost use Rattle.matrix_files.specs.InverseFile.{places_stated, ReadsInverse, RefusesInverse};
 ghost use Rattle.matrix_files.specs.declared.kind.MatrixKind.{MatrixKind};
 ghost use Rattle.matrix_files.specs.declared.order_file.OrderFileKind.{OrderFileKind};
 ghost use Rattle.matrix_files.specs.declared.perm_file.PermKind.{PermKind};
@@ -78,12 +78,11 @@ pub fn exactly_one_inverse()
     text_laws::exactly_one::<PermKind>();
 }
 
-/// What a file of places is read as is a permutation, in which the place of each vertex v is the v-th number of the file, counted from 1.
+/// What a file of places is read as is a permutation, in which the place of each vertex v is the v-th that the file states, counted from 1.
 pub fn inverse_is_perm()
     ensures perm { (n : ℕ) (bytes order : List ℕ) → ReadsInverse n bytes order → IsPerm n order }
     ensures places { (n : ℕ) (bytes order : List ℕ) → ReadsInverse n bytes order → (v : ℕ) → IsVertex n v →
-        let rows = rows_of_bytes Commented bytes in
-        place_of order v ≡ from_one (base_stated rows) (number_at (numbers_stated rows) v) }
+        place_of order v ≡ number_at (places_stated n (rows_of_bytes Commented bytes)) v }
 {}
 
 /// An order that is printed, a vertex on a line, is read as it was, and its text is within the limit of bytes, so that a file of it can be

@@ -1,12 +1,13 @@
 //! Files about matrices: the coordinate format of Matrix Market, orders, permutations, and their inverses.
 //!
-//! The definitions stand in specs/: `MatrixFile`, `OrderFile`, `PermFile`, `InverseFile`; the laws in [`laws`].
+//! The definitions stand in specs/: `MatrixFile`, `OrderFile`, `PermFile`, `InverseFile`, `ListingFile`; the laws in [`laws`].
 #![tactic(auto)]
 
 mod inverse_file;
 mod kind;
 pub mod laws;
 mod lines;
+mod listing_file;
 mod order_file;
 mod order_lines;
 mod perm_file;

@@ -1,12 +1,14 @@
 //! The lines of a report that states an order.
 
-ghost use Rattle.std.specs.Prelude.{◌≡◌, ◌==◌, [], ◌∷◌, false, length, MatchOption};
+ghost use Rattle.std.specs.Prelude.{◌≡◌, [], ◌∷◌};
 ghost use Rattle.mp_text.specs.Text.{tokens_of};
 ghost use Rattle.mp_text.specs.Ahead.{row};
 ghost use Rattle.mp_text.specs.Reading.{Gives, tested};
-ghost use Rattle.matrix_files.specs.OrderFile.{is_report, number_after, peak_tests, count_on, count_tests, is_end};
+ghost use Rattle.file_frame.specs.Frame.{is_end};
+ghost use Rattle.matrix_files.specs.OrderFile.{is_report, number_after, peak_tests, count_on, count_tests};
 
 use crate::order_file::OrderFileKind;
+use file_frame::{after_word, is_word};
 use limits::{LimitName, MOST_TASKS};
 use mp_text::{Line, Refusal, fault, number, tokens};
 
@@ -24,31 +26,14 @@ pub fn is_report(line: Line<'_>) -> bool
 pub fn is_end(line: Line<'_>) -> bool
     ensures { result ≡ is_end (row line.entry.number line.entry.text.now) }
 {
-    match tokens(line.text).one() {
-        Some(only) => only == b"end".as_slice(),
-        None => false,
-    }
-}
-
-// The tokens of a line, where they are two.
-fn two_words(text: &[u8]) -> Option<(&[u8], &[u8])>
-    ensures { MatchOption result ((length (tokens_of text.now) == 2) ≡ false) (λ p. tokens_of text.now ≡ p.0.now ∷ p.1.now ∷ []) }
-{
-    let mut words = tokens(text);
-    let first = words.next()?;
-    let second = words.next()?;
-    match words.next() {
-        Some(_) => None,
-        None => Some((first, second)),
-    }
+    is_word(line.text, b"end")
 }
 
 // The number after a word, where the line has nothing else.
 fn number_after(text: &[u8], word: &[u8]) -> Option<u64>
     ensures { result ≡ number_after word.now (tokens_of text.now) }
 {
-    let (first, second) = two_words(text)?;
-    if first == word { number(second) } else { None }
+    number(after_word(text, word)?)
 }
 
 /// `peak P`, whose number is not asked for.

@@ -6,7 +6,7 @@ ghost use Rattle.matrix_files.specs.OrderKinds.{perm_word};
 ghost use Rattle.permutations.specs.Perm.{IsVertex, PermState, times};
 ghost use Rattle.matrix_files.specs.PermFile.{counted, is_vertex, perm_token_tests, numbering_format, ReadsPerm, IsPermRefusal};
 ghost use Rattle.matrix_files.specs.OrderReader.{vertex_step, perm_step, perm_end, took_perm};
-ghost use Rattle.matrix_files.specs.OrderReader.{ReadsNumbering, IsNumberingRefusal};
+ghost use Rattle.matrix_files.specs.OrderReader.{ReadsNumbering, IsFormatRefusal};
 
 use mp_text::{Kind, Layout, Line, Reader, Refusal, fault, number, read_with, tokens};
 use permutations::{PartialPerm, Perm};
@@ -70,34 +70,39 @@ fn counted(base: u32, n: u32, value: u64) -> Option<u32>
     Some((value - base) as u32 + 1)
 }
 
-impl<const BASE: u32> PermReader<BASE> {
-    // The vertex that a token states, where it passes its tests.
-    fn vertex(&self, line: u64, token: &[u8]) -> Result<u32, Refusal<PermKind>>
-        ensures vertex { let s = self.now in
-            Gives (tested (perm_token_tests BASE s.n line s.numbers token.now) (counted BASE token.now)) result }
-        ensures range { IfOk result (λ v. IsVertex self.now.n v) }
-        ensures fresh { IfOk result (λ v. times self.now.numbers v ≡ 0) }
-    {
-        let value = number(token).ok_or(fault(line, PermKind::Number))?;
-        let n = self.taken.whole_len();
-        if self.taken.len() >= n as usize {
-            return Err(fault(line, PermKind::Count));
-        }
-        let Some(vertex) = counted(BASE, n, value) else {
-            return Err(fault(line, PermKind::Range));
-        };
-        if self.taken.has(vertex) {
-            return Err(fault(line, PermKind::Repeated));
-        }
-        Ok(vertex)
+/// The number that a token states, which counts from a base, counted from 1, where it can come next after those that were taken.
+pub(crate) fn number_on(
+    base: u32,
+    taken: &PartialPerm,
+    line: u64,
+    token: &[u8],
+) -> Result<u32, Refusal<PermKind>>
+    ensures judged { let s = taken.now in
+        Gives (tested (perm_token_tests base s.n line s.numbers token.now) (counted base token.now)) result }
+    ensures range { IfOk result (λ v. IsVertex taken.now.n v) }
+    ensures fresh { IfOk result (λ v. times taken.now.numbers v ≡ 0) }
+{
+    let value = number(token).ok_or(fault(line, PermKind::Number))?;
+    let n = taken.whole_len();
+    if taken.len() >= n as usize {
+        return Err(fault(line, PermKind::Count));
     }
+    let Some(vertex) = counted(base, n, value) else {
+        return Err(fault(line, PermKind::Range));
+    };
+    if taken.has(vertex) {
+        return Err(fault(line, PermKind::Repeated));
+    }
+    Ok(vertex)
+}
 
+impl<const BASE: u32> PermReader<BASE> {
     // Takes one token more.
     #[tactic(auto, unfolding(crate::specs::OrderReader::vertex_step))]
     fn take(&mut self, line: u64, token: &[u8]) -> Result<(), Refusal<PermKind>>
         ensures { Steps (vertex_step BASE line self.old token.now) result self.new }
     {
-        let vertex = self.vertex(line, token)?;
+        let vertex = number_on(BASE, &self.taken, line, token)?;
         self.taken.push(vertex)?;
         Ok(())
     }
@@ -145,7 +150,7 @@ pub(crate) fn read_numbering<const BASE: u32>(
     bytes: &[u8],
     n: u32,
 ) -> Result<Perm, Refusal<PermKind>>
-    ensures { MatchResult result (λ perm. ReadsNumbering BASE n bytes.now perm) (IsNumberingRefusal BASE n bytes.now) }
+    ensures { MatchResult result (λ perm. ReadsNumbering BASE n bytes.now perm) (IsFormatRefusal (numbering_format BASE n) bytes.now) }
 {
     let taken = PartialPerm::new(alloc, n)?;
     let reader = read_with(bytes, Layout::Commented, PermReader::<BASE> { taken })?;

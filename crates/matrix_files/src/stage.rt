@@ -15,3 +15,11 @@ pub enum OrderStage {
     Listed,
     Ended,
 }
+
+/// What the reader of a listing of places expects next: how many vertices there are, a vertex, or its place.
+#[derive(Clone, Copy, Debug, PartialEq, Eq)]
+pub enum ListingStage {
+    Count,
+    Vertex,
+    Place,
+}

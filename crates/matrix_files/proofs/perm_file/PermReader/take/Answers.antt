@@ -8,7 +8,7 @@ pub returns-in_err-vertex : goal.returns-in_err-vertex
 unfolding vertex_step
 returns-in_err-vertex g c =
     let p = err_from_is_err_and c.from_residual.result c.from_residual.ensures.1 in
-    let s = c.args.self.now in
-    rw (p.1, p.2)
+    let s = c.self.inside.taken in
+    rw (p.1, p.2, ← c.self.view_is)
     (Fails-tested (perm_token_tests g.row.BASE s.n c.args.line s.numbers c.args.token.now)
-    _ _ c.in_err-vertex.field-0.0 c.in_err-vertex.ensures.vertex)
+    _ _ c.in_err-vertex.field-0.0 c.in_err-vertex.ensures.judged)
