@@ -1,24 +1,21 @@
 -- The trees and tables of a run after each event.
-use Rattle.std.proofs.Common.{◌≡◌, ◌≢◌, ℕ, ◌+◌, ◌-◌, ◌*◌, ◌<◌, ◌≤◌, Bool, false, cond, ◌&&◌, List, ◌∷◌, length}
-use Rattle.std.proofs.Common.{take, get_or, set, refl, sym, ◌∙◌, ap, arith, ⊎_elim, IsPermutation}
-use Rattle.std.specs.Prelude.{slice_index, count_by, ◌==◌, ◌||◌}
-use Rattle.std.proofs.lemmas.List.{length-set, take_more}
+use Rattle.std.proofs.Common.{◌≡◌, ◌≢◌, ℕ, ◌+◌, ◌-◌, ◌*◌, ◌<◌, ◌≤◌, Bool, false, cond, List, ◌∷◌, length}
+use Rattle.std.proofs.Common.{get_or, set, refl, sym, ◌∙◌, ap, arith, ⊎_elim, IsPermutation}
+use Rattle.std.specs.Prelude.{slice_index, count_by, ◌==◌}
+use Rattle.std.proofs.lemmas.List.{length-set}
 use Rattle.std.proofs.lemmas.Bool.{cases_eq, cases_lt, eq-eqb, ne_eqb, and_parts, cases_Bool, true≢false, false_from_ne_true}
-use Rattle.std.proofs.Math.Bool.{or-false}
 use Rattle.limits.specs.Limits.{most_time}
-use Rattle.shared_systems.specs.Shared.{SharedTaskSystem, HasTask}
-use Rattle.mp_system.specs.Memory.{stands_in}
-use Rattle.shared_systems.specs.SharedMemory.{has_inputs}
+use Rattle.shared_systems.specs.Shared.{HasTask}
 use Rattle.activation.specs.declared.events.Phase.{Phase}
 use Rattle.activation.specs.declared.events.Phase.TheVariants.{Running, Done}
 use Rattle.activation.specs.declared.events.EventKind.TheVariants.{Activate, Start, Finish}
-use Rattle.activation.specs.Machine.{Setting, IsSetting, State, phase_in, with_phase, is_idle_phase, is_running}
-use Rattle.activation.specs.Machine.{is_running_phase, is_done, is_done_phase, activated_tasks, running_count}
+use Rattle.activation.specs.Machine.{Setting, IsSetting, State, phase_in, with_phase, is_running}
+use Rattle.activation.specs.Machine.{is_running_phase, is_done, running_count}
 use Rattle.activation.specs.Machine.{MayActivate, MayStart, MayFinish, state_after, AllDone}
 use Rattle.activation.specs.Runs.{NoneRuns, CanBegin}
 use Rattle.activation.specs.Safe.{IsSafe}
 use Rattle.activation.specs.Schedule.{task_entry}
-use Rattle.activation.specs.Tables.{awaited, is_edge, is_startable}
+use Rattle.activation.specs.Tables.{is_edge, is_startable}
 use Rattle.activation.specs.Run.{event_count, RunTables, IsRun, IsFirstStartable}
 use Rattle.std.specs.List.{sum_by}
 use Rattle.std.proofs.lemmas.List.Sorted.{length_permutation, All-permutation, sum_by_pushed, sum_by_popped}
@@ -30,16 +27,9 @@ use Rattle.activation.proofs.Clocks.{clock_runs}
 use Rattle.activation.proofs.Numbers.{number_set_same, number_set_other}
 use Rattle.activation.proofs.Phases.{with_phase_other, idle_from, running_from}
 use Rattle.activation.proofs.Orders.{each, task_in_order, in_front, stands_once}
-use Rattle.activation.proofs.Changes.{is_changed, finishes_front, finish_adds, same_done}
+use Rattle.activation.proofs.Changes.{is_changed, finishes_front}
 use Rattle.activation.proofs.Counting.{count_step}
-use Rattle.activation.proofs.Awaiting.{awaited_same, awaited_later, ready_from, awaits_none}
-use Rattle.std.specs.Cmp.{both_ways}
-use Rattle.activation.proofs.Keeping.{stands_appended}
-
--- tasks that wait for as many items are ready alike
-ready_alike : (s : SharedTaskSystem) (d e : ℕ → Bool) (t : ℕ) → awaited s e t ≡ awaited s d t → has_inputs s e t ≡ has_inputs s d t
-ready_alike s d e t same =
-    both_ways _ _ (λ h. ready_from s d t (sym same ∙ awaits_none s e t h)) (λ h. ready_from s e t (same ∙ awaits_none s d t h))
+use Rattle.activation.proofs.Startables.{still, stays, keeps_mark}
 
 module _ {c : Setting} {st : State} {time : ℕ} {x : RunTables} (set' : IsSetting c) (safe : IsSafe c st) (r : IsRun c st time x) where
   -- a bound that grows
@@ -67,15 +57,6 @@ module _ {c : Setting} {st : State} {time : ℕ} {x : RunTables} (set' : IsSetti
 
   -- after an activation
   module _ (task : ℕ) (h : MayActivate c st task) where
-    still : (t : ℕ) → t ≢ task → is_startable c (state_after st Activate task) t ≡ is_startable c st t
-    still t n =
-        let more = take_more c.order st.activated 0 h.left in
-        let same : stands_in (take (st.activated + 1) c.order) t ≡ stands_in (take st.activated c.order) t =
-        ap (λ xs. stands_in xs t) more ∙ stands_appended (take st.activated c.order) (get_or c.order st.activated 0) t
-        ∙ ap (λ b. stands_in (take st.activated c.order) t || b) (ap (λ y. y == t) h.next ∙ ne_eqb task t (λ z. n (sym z)))
-        ∙ or-false (stands_in (take st.activated c.order) t) in
-        ap (λ b. b && (is_idle_phase (phase_in st.phases t) && has_inputs c.system (is_done st) t)) same
-
     pub activated_run : (new : List Bool) → length new ≡ length x.ready →
         ((k : ℕ) → k < length c.order
         → get_or new (get_or x.ranks k 0) false ≡ cond (st.activated == k)
@@ -92,7 +73,7 @@ module _ {c : Setting} {st : State} {time : ℕ} {x : RunTables} (set' : IsSetti
           clock_has = r.clock_has;
           clock_is = r.clock_is;
           ready_long = len ∙ r.ready_long;
-          ready_is = marks_anew su st.activated task new h.next h.left still marks;
+          ready_is = marks_anew su st.activated task new h.next h.left (still c set' st safe task h) marks;
           not_past = r.not_past;
           dues_small = λ t e. small_more (task_entry x.dues t) su (r.dues_small t e) count;
           time_small = small_more time su r.time_small count;
@@ -119,14 +100,6 @@ module _ {c : Setting} {st : State} {time : ℕ} {x : RunTables} (set' : IsSetti
       (within : d.place < length c.order) (there : slice_index c.order d.place ≡ task) where
     task_is : HasTask c.system task
     task_is = task_in_order c.system c.order (each set') task (in_front c.system c.order (each set') st.activated task h.activated)
-
-    stays : (t : ℕ) → t ≢ task → is_startable c (state_after st Start task) t ≡ is_startable c st t
-    stays t n =
-        let phase = with_phase_other st.phases task t Running n in
-        let alike = ready_alike c.system (is_done st) (is_done (state_after st Start task)) t
-        (awaited_same c.system (is_done (state_after st Start task)) (is_done st) (same_done c set' st safe task h) t) in
-        ap (λ b. stands_in (activated_tasks c st) t && (is_idle_phase (phase_in (with_phase st.phases task Running) t) && b)) alike
-        ∙ ap (λ q. stands_in (activated_tasks c st) t && (is_idle_phase q && has_inputs c.system (is_done st) t)) phase
 
     pub started_run : (low : time ≤ d.time) → (high : d.time ≤ time + most_time)
         → (clock : ClockValue) → clock.room ≡ x.clock.room → IsPermutation (d ∷ x.clock.dues) clock.dues →
@@ -170,7 +143,7 @@ module _ {c : Setting} {st : State} {time : ℕ} {x : RunTables} (set' : IsSetti
               let apart : u ≢ task = λ z. true≢false (sym (clock_runs r i e w) ∙ ap (is_running st) z ∙ ap is_running_phase h.idle) in
               record { within = other.within; time = other.time ∙ sym (others u apart) }));
           ready_long = len ∙ r.ready_long;
-          ready_is = marks_anew su d.place task new there within stays marks;
+          ready_is = marks_anew su d.place task new there within (stays c set' st safe task h) marks;
           not_past = λ u e.
               ⊎_elim
               (λ z. let due' : task_entry newdues u ≡ due = ap (task_entry newdues) z ∙ mine in omega (arith, due', low))
@@ -188,22 +161,6 @@ module _ {c : Setting} {st : State} {time : ℕ} {x : RunTables} (set' : IsSetti
   -- after a finish
   module _ (task : ℕ) (d : Due) (h : MayFinish c st task)
       (within : d.place < length c.order) (there : slice_index c.order d.place ≡ task) where
-    keeps_mark : (t : ℕ) → count_by (is_edge task t) c.system.items ≡ 0
-        → is_startable c (state_after st Finish task) t ≡ is_startable c st t
-    keeps_mark t none =
-        let fewer = awaited_later c.system (is_done st) (is_done (state_after st Finish task)) task
-        (ap is_done_phase h.running) (finish_adds c set' st safe task h) t in
-        let alike = ready_alike c.system (is_done st) (is_done (state_after st Finish task)) t (omega (arith, fewer, none)) in
-        let idle : is_idle_phase (phase_in (with_phase st.phases task Done) t) ≡ is_idle_phase (phase_in st.phases t) =
-        ⊎_elim
-        (λ e. ap (λ u. is_idle_phase (phase_in (with_phase st.phases task Done) u)) e
-        ∙ ap is_idle_phase (is_changed c set' st safe task (finishes_front c set' st safe task h) Done)
-        ∙ sym (ap (λ u. is_idle_phase (phase_in st.phases u)) e ∙ ap is_idle_phase h.running))
-        (λ n. ap is_idle_phase (with_phase_other st.phases task t Done n))
-        (cases_eq t task) in
-        ap (λ b. stands_in (activated_tasks c st) t && (is_idle_phase (phase_in (with_phase st.phases task Done) t) && b)) alike
-        ∙ ap (λ b. stands_in (activated_tasks c st) t && (b && has_inputs c.system (is_done st) t)) idle
-
     pub finished_run : d.time ≡ task_entry x.dues task → ((u : ℕ) → phase_in st.phases u ≡ Running → d.time ≤ task_entry x.dues u) →
         (clock : ClockValue) → clock.room ≡ x.clock.room → IsPermutation x.clock.dues (d ∷ clock.dues)
         → running_count c (state_after st Finish task) + 1 ≡ running_count c st →
@@ -245,7 +202,7 @@ module _ {c : Setting} {st : State} {time : ℕ} {x : RunTables} (set' : IsSetti
               (λ (some : 0 < count_by (is_edge task t) c.system.items). consumers k v some)
               (λ (le : count_by (is_edge task t) c.system.items ≤ 0).
               let none : count_by (is_edge task t) c.system.items ≡ 0 = omega arith in
-              others k v none ∙ r.ready_is k v ∙ sym (keeps_mark t none))
+              others k v none ∙ r.ready_is k v ∙ sym (keeps_mark c set' st safe task h t none))
               (cases_lt 0 (count_by (is_edge task t) c.system.items));
           not_past = λ u e. least u (old u e);
           dues_small = λ u e. small_more (task_entry x.dues u) su (r.dues_small u (old u e)) count;

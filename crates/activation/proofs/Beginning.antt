@@ -1,6 +1,8 @@
 -- The tables of a core at its start.
 use Rattle.std.proofs.Common.{◌≡◌, ℕ, ◌≤◌, false, not, cond, List, [], length, refl, sym, ◌∙◌, ap}
-use Rattle.std.specs.Prelude.{count_by, slice_index}
+use Rattle.std.specs.Prelude.{count_by, slice_index, replicate}
+use Rattle.std.proofs.lemmas.List.{length-replicate}
+use Rattle.bit_rows.proofs.RowBits.{none_in}
 use Rattle.limits.specs.Limits.{most_workers}
 use Rattle.lists.proofs.Lists.{sum-same as sum_same}
 use Rattle.shared_systems.specs.Shared.{SharedItem, shared_item_at}
@@ -29,18 +31,20 @@ pub start_tables : (c : Setting) → IsSetting c → c.workers ≤ most_workers 
     → used_memory c (start_state c) ≡ shared_memory c.system (λ _. false) →
     (fixed : FixedTables) → AreFixed c fixed →
     (waiting : List ℕ) → AreByPlace c.order (λ t n. n ≡ count_by (is_awaited (λ _. false) t) c.system.items) waiting →
+    length c.order ≡ length c.system.tasks →
     (left : List ℕ) → AreLeft (λ _. false) (shared_items_of c.system) left →
     (memory : ℕ) → memory ≡ shared_memory c.system (λ _. false) →
     AreCoreTables c (start_state c)
     (record {
       fixed = fixed;
       waiting = waiting;
+      startable = replicate (length c.system.tasks) false;
       left = left;
       running = record { listed = []; room = c.workers; count = length c.system.tasks };
       booked = memory;
       used = memory;
     })
-start_tables c set few safe booked used fixed are waiting waits left lefts memory is =
+start_tables c set few safe booked used fixed are waiting waits long left lefts memory is =
     let idle = phase_replicate (length c.system.tasks) in
     record {
       setting = set;
@@ -48,6 +52,10 @@ start_tables c set few safe booked used fixed are waiting waits left lefts memor
       safe = safe;
       fixed = are;
       waiting_are = record { long = waits.long; each = λ k w. waits.each k w ∙ sym (awaited_first c (slice_index c.order k)) };
+      startable_are = record {
+        long = length-replicate (length c.system.tasks) false ∙ sym long;
+        each = λ k w. none_in (length c.system.tasks) k;
+      };
       left_are = record { long = lefts.long; each = λ j lt. lefts.each j lt ∙ sym (left_first c (shared_item_at (shared_items_of c.system) j)) };
       running_room = refl;
       running_numbers = refl;

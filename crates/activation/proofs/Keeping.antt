@@ -1,15 +1,15 @@
 -- The tables of a machine before and after each event.
-use Rattle.std.proofs.Common.{◌≡◌, ℕ, ◌+◌, ◌-◌, ◌<◌, ◌≤◌, All, Bool, true, false, cond, not, ◌&&◌, List, [], ◌∷◌, ◌++◌}
-use Rattle.std.proofs.Common.{length, get_or, set, sym, subst, ◌∙◌, ap, arith, ⊎_elim, length-append}
-use Rattle.std.specs.Prelude.{count_by, ◌==◌, ◌||◌, nat_lt, slice_index}
+use Rattle.std.proofs.Common.{◌≡◌, ◌≢◌, ℕ, ◌+◌, ◌-◌, ◌<◌, ◌≤◌, All, Bool, true, false, cond, not, ◌&&◌, List, [], ◌∷◌, ◌++◌}
+use Rattle.std.proofs.Common.{length, get_or, set, refl, sym, subst, ◌∙◌, ap, arith, ⊎_elim, length-append}
+use Rattle.std.specs.Prelude.{count_by, ◌==◌, nat_lt, slice_index}
 use Rattle.std.specs.List.{sum_by}
 use Rattle.std.proofs.Math.Path.{fun_ext}
 use Rattle.limits.specs.Limits.{most_total}
 use Rattle.std.proofs.lemmas.List.{get_or_read, length-take, get_or-take}
 use Rattle.std.proofs.lemmas.List.Elements.{All-get_or}
 use Rattle.row_table.specs.Rows.{row_at}
-use Rattle.std.proofs.lemmas.Bool.{true≢false, cases_eq, eq-eqb, eqb-true, ne_eqb, ltb-true, lt-ltb, and_from}
-use Rattle.std.proofs.lemmas.List.Folds.{list_any-append}
+use Rattle.bit_rows.specs.Bits.{bit_in, IsFirstIn}
+use Rattle.std.proofs.lemmas.Bool.{true≢false, cases_eq, cases_lt, eq-eqb, ne_eqb, ltb-true, lt-ltb, and_from}
 use Rattle.std.proofs.Math.Bool.{or-true, or-false, and-true, and-false}
 use Rattle.shared_systems.specs.Shared.{SharedItem, HasTask, shared_item_at, shared_need_of, own_inputs_of, shared_outputs_of}
 use Rattle.mp_system.specs.Memory.{stands_in}
@@ -21,27 +21,25 @@ use Rattle.activation.specs.Running.{RunningValue}
 use Rattle.activation.specs.Machine.{Setting, State, phase_in, is_idle_phase, is_running_phase, is_done_phase, is_done}
 use Rattle.activation.specs.Machine.{is_running, activated_tasks, MayActivate, MayStart, MayFinish, state_after}
 use Rattle.activation.specs.Safe.{IsSafe}
-use Rattle.activation.specs.Schedule.{task_entry}
+use Rattle.activation.specs.Schedule.{task_entry, StandsBefore}
 use Rattle.shared_systems.specs.Freed.{freed_by}
 use Rattle.activation.proofs.LastReaders.{ReadsRow, reads_row}
 use Rattle.activation.specs.Changes.{BooksNeed, UsesNeed, FreesNeed}
-use Rattle.activation.specs.Tables.{CoreTables, AreCoreTables, AreByPlace, AreLeft, awaited, is_edge, is_startable}
+use Rattle.activation.specs.Tables.{CoreTables, AreCoreTables, AreByPlace, AreLeft, AreStartable, awaited, is_edge, is_startable}
 use Rattle.activation.specs.Tables.{shared_items_of, numbers_read, readers_left}
 use Rattle.activation.proofs.Totals.{place_in, in_at}
 use Rattle.activation.proofs.Numbers.{number_read}
 use Rattle.activation.proofs.Phases.{phase_read, running_from, phase_written, with_phase_same, with_phase_other}
 use Rattle.activation.proofs.Orders.{each, task_in_order, task_has_place, in_front}
 use Rattle.activation.proofs.Changes.{same_done, finish_adds, finishes_front}
-use Rattle.activation.proofs.Awaiting.{awaited_same, awaited_later, ready_from, awaits_none}
+use Rattle.activation.proofs.Awaiting.{awaited_same, awaited_later}
+use Rattle.activation.proofs.Startables.{ready_counted, stands_appended, still, activated_is, stays, started_is, keeps_mark, reader_is}
+use Rattle.activation.proofs.Startables.{one_written}
 use Rattle.std.specs.Cmp.{both_ways}
 
 -- what may start is startable
 pub start_startable : (c : Setting) (st : State) (task : ℕ) → MayStart c st task → is_startable c st task ≡ true
 start_startable c st task h = and_from _ _ h.activated (and_from _ _ (ap is_idle_phase h.idle) h.ready)
-
--- a task that is appended
-pub stands_appended : (xs : List ℕ) (t u : ℕ) → stands_in (xs ++ t ∷ []) u ≡ (stands_in xs u || (t == u))
-stands_appended xs t u = list_any-append (λ x. x == u) xs (t ∷ []) ∙ ap (λ b. stands_in xs u || b) (or-false (t == u))
 
 left_same : (done other : ℕ → Bool) → ((u : ℕ) → done u ≡ other u) → (x : SharedItem) → readers_left done x ≡ readers_left other x
 left_same done other same x = ap (λ (f : ℕ → Bool). readers_left f x) (fun_ext same)
@@ -75,23 +73,6 @@ module _ {c : Setting} {st : State} {x : CoreTables} (a : AreCoreTables c st x) 
     may_not_activate tight other h =
         let same : task ≡ other = sym next ∙ h.next in
         omega (arith, cost, ap (shared_need_of c.system) same, a.booked_is, h.fits)
-
-    pub activated_tables : IsSafe c (state_after st Activate task) → BooksNeed c st task →
-        AreCoreTables c (state_after st Activate task) (record x { booked = x.booked + n })
-    activated_tables safe change = record {
-      setting = a.setting;
-      few_workers = a.few_workers;
-      safe = safe;
-      fixed = a.fixed;
-      waiting_are = a.waiting_are;
-      left_are = a.left_are;
-      running_room = a.running_room;
-      running_numbers = a.running_numbers;
-      running_length = a.running_length;
-      running_are = a.running_are;
-      booked_is = omega (arith, a.booked_is, change.booked, cost);
-      used_is = a.used_is;
-    }
 
   -- the place of a task tells whether it is activated
   place_is : (task : ℕ) → HasTask c.system task
@@ -148,9 +129,6 @@ module _ {c : Setting} {st : State} {x : CoreTables} (a : AreCoreTables c st x) 
     phase_here : {q : Phase} → q ≡ get_or st.phases (task - 1) q → q ≡ phase_in st.phases task
     phase_here {q} e = phase_read st.phases task q is.0 (omega (arith, is.1, a.safe.phases)) e
 
-    pub idle_read : {q : Phase} → q ≡ get_or st.phases (task - 1) q → is_idle_phase (phase_in st.phases task) ≡ is_idle_phase q
-    idle_read e = ap is_idle_phase (sym (phase_here e))
-
     pub runs_here : {q : Phase} → q ≡ get_or st.phases (task - 1) q → is_running_phase q ≡ true → MayFinish c st task
     runs_here e on = record { running = running_from (phase_in st.phases task) (ap is_running_phase (sym (phase_here e)) ∙ on) }
 
@@ -158,14 +136,61 @@ module _ {c : Setting} {st : State} {x : CoreTables} (a : AreCoreTables c st x) 
     rests_here e off h = true≢false (sym (ap is_running_phase (phase_here e ∙ h.running)) ∙ off)
 
     pub ready_read : {n : ℕ} → n ≡ get_or x.waiting k n → has_inputs c.system (is_done st) task ≡ (n == 0)
-    ready_read {n} e =
-        let left : n ≡ awaited c.system (is_done st) task = number_here a.waiting_are e in
-        both_ways _ _ (λ h. eq-eqb n 0 (omega (arith, left, awaits_none c.system (is_done st) task h)))
-        (λ h. ready_from c.system (is_done st) task (omega (arith, left, eqb-true n 0 h)))
+    ready_read {n} e = ready_counted c.system (is_done st) task n (number_here a.waiting_are e)
+
+  -- after an activation
+  module _ {task n : ℕ} (h : MayActivate c st task) (cost : n ≡ shared_need_of c.system task) where
+    pub activated_tables : IsSafe c (state_after st Activate task) → BooksNeed c st task →
+        {m : ℕ} → m ≡ get_or x.waiting st.activated m → AreCoreTables c (state_after st Activate task)
+        (record x { startable = set x.startable st.activated (m == 0); booked = x.booked + n })
+    activated_tables safe change {m} waits = record {
+      setting = a.setting;
+      few_workers = a.few_workers;
+      safe = safe;
+      fixed = a.fixed;
+      waiting_are = a.waiting_are;
+      startable_are = one_written c a.setting st a.safe task (state_after st Activate task) x.startable a.startable_are
+          st.activated (m == 0) h.left h.next (still c a.setting st a.safe task h)
+          (activated_is c a.setting st a.safe task h ∙ ready_read h.left h.next waits);
+      left_are = a.left_are;
+      running_room = a.running_room;
+      running_numbers = a.running_numbers;
+      running_length = a.running_length;
+      running_are = a.running_are;
+      booked_is = omega (arith, a.booked_is, change.booked, cost);
+      used_is = a.used_is;
+    }
 
   -- where a task may start, a worker is free
   pub start_room : (task : ℕ) → MayStart c st task → length x.running.listed < x.running.room
   start_room task h = omega (arith, a.running_length, a.running_room, h.free)
+
+  -- the place of a task that may start is in the row, and the first place of the row has the one that stands first in the order
+  place_of_start : (u : ℕ) → MayStart c st u → (k : ℕ) × (k < length c.order) × (slice_index c.order k ≡ u) × (bit_in x.startable k ≡ true)
+  place_of_start u h =
+      let p = place_in c.order u (in_front c.system c.order (each a.setting) st.activated u h.activated) in
+      (p.0, p.1, p.2, a.startable_are.each p.0 p.1 ∙ ap (is_startable c st) p.2 ∙ start_startable c st u h)
+
+  pub first_before : (k : ℕ) → IsFirstIn x.startable k → (u : ℕ) → MayStart c st u → u ≢ slice_index c.order k
+      → StandsBefore c.order (slice_index c.order k) u
+  first_before k first u h other =
+      let p = place_of_start u h in record {
+        place = k;
+        later = p.0;
+        within = p.1;
+        before =
+            ⊎_elim
+            (λ lt. absurd (true≢false (sym p.3 ∙ first.first p.0 lt)))
+            (λ ge. ⊎_elim (λ lt. lt)
+            (λ le. let same : p.0 ≡ k = omega arith in absurd (other (sym p.2 ∙ ap (slice_index c.order) same)))
+            (cases_lt k p.0))
+            (cases_lt p.0 k);
+        here = refl;
+        there = p.2;
+      }
+
+  pub none_may_start : ((k : ℕ) → bit_in x.startable k ≡ false) → (u : ℕ) → MayStart c st u → ⊥
+  none_may_start none u h = let p = place_of_start u h in true≢false (sym p.3 ∙ none p.0)
 
   -- after a start
   module _ {task n : ℕ} (h : MayStart c st task) (cost : n ≡ shared_need_of c.system task) (change : UsesNeed c st task) where
@@ -174,13 +199,15 @@ module _ {c : Setting} {st : State} {x : CoreTables} (a : AreCoreTables c st x) 
 
     pub started_tables : IsSafe c (state_after st Start task) → (now : RunningValue)
         → now.listed ≡ x.running.listed ++ task ∷ [] → now.room ≡ x.running.room → now.count ≡ x.running.count →
+        (k : ℕ) → k < length c.order → slice_index c.order k ≡ task →
         AreCoreTables c (record { activated = st.activated; phases = set st.phases (task - 1) Running })
-        (record x { running = now; used = x.used + n })
-    started_tables safe now listed room count =
+        (record x { startable = set x.startable k false; running = now; used = x.used + n })
+    started_tables safe now listed room count k w at_k =
         let is = start_is_task task h in
         let here = with_phase_same st.phases task Running is.0 (omega (arith, is.1, a.safe.phases)) in
         let longer : length now.listed ≡ length x.running.listed + 1 = ap length listed ∙ length-append x.running.listed (task ∷ []) in
-        let tables : AreCoreTables c (state_after st Start task) (record x { running = now; used = x.used + n }) = record {
+        let tables : AreCoreTables c (state_after st Start task)
+        (record x { startable = set x.startable k false; running = now; used = x.used + n }) = record {
           setting = a.setting;
           few_workers = a.few_workers;
           safe = safe;
@@ -190,6 +217,8 @@ module _ {c : Setting} {st : State} {x : CoreTables} (a : AreCoreTables c st x) 
             each = λ k w. a.waiting_are.each k w ∙ sym (awaited_same c.system (is_done (state_after st Start task))
                 (is_done st) (same_done c a.setting st a.safe task h) (slice_index c.order k));
           };
+          startable_are = one_written c a.setting st a.safe task (state_after st Start task) x.startable a.startable_are k false
+              w at_k (stays c a.setting st a.safe task h) (started_is c a.setting st a.safe task h);
           left_are = record {
             long = a.left_are.long;
             each = λ j lt. a.left_are.each j lt ∙ sym (left_same (is_done (state_after st Start task)) (is_done st)
@@ -252,6 +281,34 @@ module _ {c : Setting} {st : State} {x : CoreTables} (a : AreCoreTables c st x) 
         );
       }
 
+      -- the places of that row are those whose mark may change
+      pub finish_startable : (waiting : List ℕ)
+          → AreByPlace c.order (λ t n. n ≡ awaited c.system (is_done (state_after st Finish task)) t) waiting
+          → (places : List Bool) → length places ≡ length x.startable →
+          ((p : ℕ) → p < length x.startable → 0 < count_by (λ q. q == p) (row_at x.fixed.consumers k)
+          → bit_in places p ≡ (nat_lt p st.activated && (slice_index waiting p == 0))) →
+          ((p : ℕ) → p < length x.startable → count_by (λ q. q == p) (row_at x.fixed.consumers k) ≡ 0
+          → bit_in places p ≡ bit_in x.startable p) →
+          AreStartable c (state_after st Finish task) places
+      finish_startable waiting waits places len listed others = record {
+        long = len ∙ a.startable_are.long;
+        each = λ p v.
+            let t = slice_index c.order p in
+            let v' : p < length x.startable = omega (arith, v, a.startable_are.long) in
+            ⊎_elim
+            (λ (some : 0 < count_by (λ q. q == p) (row_at x.fixed.consumers k)).
+            listed p v' some
+            ∙ sym (reader_is c a.setting st a.safe task h t (omega (arith, taken p v, some))
+            ∙ rw (
+              front_read v refl,
+              ready_counted c.system (is_done (state_after st Finish task)) t (slice_index waiting p) (waits.each p v),
+            ) refl))
+            (λ (le : count_by (λ q. q == p) (row_at x.fixed.consumers k) ≤ 0).
+            others p v' (omega arith) ∙ a.startable_are.each p v
+            ∙ sym (keeps_mark c a.setting st a.safe task h t (omega (arith, taken p v, le))))
+            (cases_lt 0 (count_by (λ q. q == p) (row_at x.fixed.consumers k)));
+      }
+
     -- at its place the row of readings has the shared items that it reads
     module _ {k : ℕ} (w : k < length c.order) (here : slice_index c.order k ≡ task) where
       pub finish_reads : ReadsRow c.system (is_done st) (is_done (state_after st Finish task)) task x.left x.fixed.sizes
@@ -280,19 +337,21 @@ module _ {c : Setting} {st : State} {x : CoreTables} (a : AreCoreTables c st x) 
           → ((t : ℕ) → stands_in now.listed t ≡ (stands_in x.running.listed t && not (t == task))) →
           length now.listed + 1 ≡ length x.running.listed → now.room ≡ x.running.room → now.count ≡ x.running.count →
           (waiting : List ℕ) → AreByPlace c.order (λ t n. n ≡ awaited c.system (is_done (state_after st Finish task)) t) waiting →
+          (places : List Bool) → AreStartable c (state_after st Finish task) places →
           (left : List ℕ) → AreLeft (is_done (state_after st Finish task)) (shared_items_of c.system) left →
           AreCoreTables c (record { activated = st.activated; phases = set st.phases (task - 1) Done })
-          (record x { waiting = waiting; left = left; running = now; booked = x.booked - n; used = x.used - n })
-      finished_tables safe now listed shorter room count waiting waits left lefts =
+          (record x { waiting = waiting; startable = places; left = left; running = now; booked = x.booked - n; used = x.used - n })
+      finished_tables safe now listed shorter room count waiting waits places marks left lefts =
           let is = finish_is_task task h in
           let here = with_phase_same st.phases task Done is.0 (omega (arith, is.1, a.safe.phases)) in
           let tables : AreCoreTables c (state_after st Finish task)
-          (record x { waiting = waiting; left = left; running = now; booked = x.booked - n; used = x.used - n }) = record {
+          (record x { waiting = waiting; startable = places; left = left; running = now; booked = x.booked - n; used = x.used - n }) = record {
             setting = a.setting;
             few_workers = a.few_workers;
             safe = safe;
             fixed = a.fixed;
             waiting_are = waits;
+            startable_are = marks;
             left_are = lefts;
             running_room = room ∙ a.running_room;
             running_numbers = count ∙ a.running_numbers;

@@ -18,6 +18,7 @@ pub mod Changes
 pub mod Safety
 pub mod Bits
 pub mod Ranking
+pub mod Startables
 pub mod Keeping
 pub mod Beginning
 pub mod Progress

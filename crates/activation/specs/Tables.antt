@@ -3,6 +3,7 @@
 use Rattle.std.specs.Prelude.{◌≡◌, ℕ, ◌+◌, ◌<◌, ◌≤◌, Bool, not, ◌==◌, ◌&&◌, if◌then◌else◌, List, [], ◌∷◌, ◌++◌, All, length, map}
 use Rattle.std.specs.Prelude.{slice_index, count_by}
 use Rattle.std.specs.List.{filter}
+use Rattle.bit_rows.specs.Bits.{bit_in}
 use Rattle.limits.specs.Limits.{most_workers}
 use Rattle.row_table.specs.Rows.{row_at}
 use Rattle.shared_systems.specs.Shared.{SharedTaskSystem, SharedItem, shared_item_at, shared_task_at, is_read_by, is_made_by}
@@ -79,6 +80,11 @@ AreTaskPlaces tasks places = (k : ℕ) → k < length tasks → task_entry place
 abbrev pub is_startable : Setting → State → ℕ → Bool
 is_startable c st t = stands_in (activated_tasks c st) t && (is_idle_phase (phase_in st.phases t) && has_inputs c.system (is_done st) t)
 
+-- the places of the startable tasks, as a row of bits
+pub record AreStartable (c : Setting) (st : State) (places : List Bool) : Type 0 where
+  pub long : length places ≡ length c.order
+  pub each : (k : ℕ) → k < length c.order → bit_in places k ≡ is_startable c st (slice_index c.order k)
+
 -- the tables that no event changes. By the places of the order: how long the task there takes, what it needs, what its end frees beside
 -- shared items, less what it leaves, who reads its outputs, and the numbers of the shared items that it reads. By the tasks: their places.
 -- By the shared items: their sizes
@@ -102,11 +108,12 @@ pub record AreFixed (c : Setting) (x : FixedTables) : Type 0 where
   pub readings_are : AreReadingRows c.order (shared_items_of c.system) x.readings
   pub sizes_are : x.sizes ≡ map shared_size (shared_items_of c.system)
 
--- and those that go along: by the places how many items the task there waits for; by the shared items how many of their readers are not
--- done; the running tasks; booked and used memory
+-- and those that go along: by the places how many items the task there waits for, and whether it is startable; by the shared items how
+-- many of their readers are not done; the running tasks; booked and used memory
 pub record CoreTables : Type 0 where
   pub fixed : FixedTables
   pub waiting : List ℕ
+  pub startable : List Bool
   pub left : List ℕ
   pub running : RunningValue
   pub booked : ℕ
@@ -119,6 +126,7 @@ pub record AreCoreTables (c : Setting) (st : State) (x : CoreTables) : Type 0 wh
   pub safe : IsSafe c st
   pub fixed : AreFixed c x.fixed
   pub waiting_are : AreByPlace c.order (λ t n. n ≡ awaited c.system (is_done st) t) x.waiting
+  pub startable_are : AreStartable c st x.startable
   pub left_are : AreLeft (is_done st) (shared_items_of c.system) x.left
   pub running_room : x.running.room ≡ c.workers
   pub running_numbers : x.running.count ≡ length c.system.tasks

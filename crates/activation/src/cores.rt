@@ -1,4 +1,4 @@
-ghost use Rattle.std.specs.Prelude.{◌≡◌, ◌==◌, nat_eq, ◌*◌, ◌<◌, ◌≤◌, ℕ, true, false, if◌then◌else◌, [], length, slice_index};
+ghost use Rattle.std.specs.Prelude.{◌≡◌, ◌≢◌, ◌==◌, nat_eq, ◌*◌, ◌<◌, ◌≤◌, ℕ, true, false, if◌then◌else◌, [], length, slice_index};
 ghost use Rattle.std.specs.Prelude.{slice_index_or, count_by, vec_capacity, IfOk, IfErr, IsTrue, IfSome, IfNone, ◌↔◌};
 ghost use Rattle.std.specs.Bool.{OnTrue, OnFalse};
 ghost use Rattle.std.specs.List.{IsDistinct};
@@ -11,6 +11,7 @@ ghost use Rattle.shared_systems.specs.SharedTraversal.{IsSharedTraversal};
 ghost use Rattle.activation.specs.Machine.{CoreValue, IsSetting, MayActivate, MayStart, MayFinish, state_after, start_state, is_running};
 ghost use Rattle.activation.specs.Machine.{is_done, booked_memory, used_memory};
 ghost use Rattle.activation.specs.Safe.{IsSafe};
+ghost use Rattle.activation.specs.Schedule.{StandsBefore};
 ghost use Rattle.activation.specs.Refusal.{IsCoreRefusal};
 ghost use Rattle.activation.specs.Tables.{AreCoreTables, IsNumbering, is_startable, is_edge};
 
@@ -25,7 +26,7 @@ use crate::refusal::CoreRefusal;
 use crate::running::RunningTasks;
 use crate::start::{start_memory, times_of};
 use crate::sums::needs_of;
-use crate::waiting::{release, waiting_of};
+use crate::waiting::{list_ready, release, waiting_of};
 use mp_system::{System, replay};
 use row_table::RowTable;
 use shared_systems::SharedSystem;
@@ -50,6 +51,7 @@ pub struct Core {
     frees: Vec<u64>,
     consumers: RowTable,
     waiting: Vec<u64>,
+    startable: RankSet,
     readings: RowTable,
     // By the items with several readers, which are numbered from 0.
     left: Vec<u32>,
@@ -85,6 +87,7 @@ impl Model for Core {
             sizes = m.sizes.items;
           };
           waiting = m.waiting.items;
+          startable = m.startable;
           left = m.left.items;
           running = m.running;
           booked = m.booked;
@@ -166,6 +169,7 @@ impl Core {
         let needs = needs_of(alloc, system, order)?;
         let waiting = waiting_of(alloc, system, order)?;
         let places = places_of(alloc, system, order)?;
+        let startable = RankSet::new(alloc, count)?;
         let consumers = consumer_rows(alloc, system, &places)?;
         let readings = readings_of(alloc, system, &places)?;
         let running = RunningTasks::new(alloc, workers as usize, count)?;
@@ -182,6 +186,7 @@ impl Core {
             frees: needs.frees,
             consumers,
             waiting,
+            startable,
             readings: readings.rows,
             left: readings.left,
             sizes: readings.sizes,
@@ -214,6 +219,7 @@ impl Core {
         }
         self.activated += 1;
         self.booked += need;
+        self.startable.put(place, self.waiting[place] == 0);
         Some(task)
     }
 
@@ -222,10 +228,7 @@ impl Core {
         requires { place < length self.now.setting.order }
         ensures { result ≡ is_startable self.now.setting self.now.state (slice_index self.now.setting.order place) }
     {
-        let at = place as usize;
-        at < self.activated
-            && self.waiting[at] == 0
-            && self.phases[self.order[at] as usize - 1].is_idle()
+        self.startable.has(place as usize)
     }
 
     // Whether it may start now.
@@ -241,6 +244,23 @@ impl Core {
         ensures { IsTrue result ↔ MayStart self.now.setting self.now.state task }
     {
         is_number(task, self.phases.len()) && self.may_start_at(self.place_of(task))
+    }
+
+    /// Of the tasks that may start now the one that stands first in the order. Until something is started, finished or activated it is
+    /// the same. So whoever activates while a task may be, starts what this tells while it tells any, and then waits for a task to
+    /// finish, needs no list of tasks. In constant time.
+    pub fn next_startable(&self) -> Option<u32>
+        ensures task { IfSome result (HasTask self.now.setting.system) }
+        ensures some { IfSome result (MayStart self.now.setting self.now.state) }
+        ensures first { IfSome result (λ t. (u : ℕ) → MayStart self.now.setting self.now.state u → u ≢ t →
+            StandsBefore self.now.setting.order t u) }
+        ensures none { IfNone result ((t : ℕ) → MayStart self.now.setting self.now.state t → ⊥) }
+    {
+        if !self.running.has_room() {
+            return None;
+        }
+        let place = self.startable.first()?;
+        Some(self.order[place])
     }
 
     /// Starts the task at a place of the order, where it may start.
@@ -261,6 +281,7 @@ impl Core {
         self.phases[task as usize - 1] = Phase::Running;
         self.running.add(task);
         self.used += need;
+        self.startable.put(place as usize, false);
         true
     }
 
@@ -300,7 +321,14 @@ impl Core {
         self.running.remove(task);
         self.booked -= frees;
         self.used -= frees;
-        release(self.consumers.row(place), &mut self.waiting);
+        let consumers = self.consumers.row(place);
+        release(consumers, &mut self.waiting);
+        list_ready(
+            consumers,
+            &self.waiting,
+            self.activated,
+            &mut self.startable,
+        );
         true
     }
 

@@ -1,5 +1,5 @@
 ghost use Rattle.std.specs.Prelude.{◌≡◌};
-ghost use Rattle.activation.specs.Machine.{is_idle_phase, is_running_phase, is_done_phase};
+ghost use Rattle.activation.specs.Machine.{is_running_phase, is_done_phase};
 
 /// What a task is doing. The machine's states name it.
 #[derive(Clone, Copy)]
@@ -13,13 +13,6 @@ pub enum Phase {
 }
 
 impl Phase {
-    /// Whether the task has not started.
-    pub fn is_idle(self) -> bool
-        ensures { result ≡ is_idle_phase self }
-    {
-        matches!(self, Phase::Idle)
-    }
-
     /// Whether the task runs.
     pub fn is_running(self) -> bool
         ensures { result ≡ is_running_phase self }

@@ -54,6 +54,14 @@ impl RankSet {
         self.groups.put(word / 64, self.words.is_in_word(word / 64));
     }
 
+    /// Whether a rank is in.
+    pub fn has(&self, rank: usize) -> bool
+        requires { rank < length self.now }
+        ensures { result ≡ bit_in self.now rank }
+    {
+        self.ranks.has(rank)
+    }
+
     /// The first rank.
     pub fn first(&self) -> Option<usize>
         ensures some { IfSome result (IsFirstIn self.now) }

@@ -1,4 +1,5 @@
-ghost use Rattle.std.specs.Prelude.{◌≡◌, ◌==◌, ℕ, ◌+◌, ◌<◌, ◌≤◌, ◌^◌, false, All, length, slice_index, count_by, IfOk};
+ghost use Rattle.std.specs.Prelude.{◌≡◌, ◌==◌, nat_lt, ℕ, ◌+◌, ◌<◌, ◌≤◌, ◌^◌, ◌&&◌, false, All, length, slice_index, count_by, IfOk};
+ghost use Rattle.bit_rows.specs.Bits.{bit_in};
 ghost use Rattle.shared_systems.specs.Shared.{HasTask};
 ghost use Rattle.activation.specs.Running.{IsNumber};
 ghost use Rattle.activation.specs.Schedule.{task_entry};
@@ -6,6 +7,7 @@ ghost use Rattle.activation.specs.Tables.{is_awaited, AreByPlace};
 
 use crate::NoMemory;
 use crate::places::by_place;
+use crate::rank_set::RankSet;
 use shared_systems::SharedSystem;
 use std::alloc::Global;
 
@@ -53,5 +55,22 @@ pub fn release(row: &[u32], waiting: &mut [u64])
 {
     for place in row {
         waiting[*place as usize] -= 1;
+    }
+}
+
+/// Writes down of the places of a row whether the task there is startable, where none of them has started: it is one of the first so many
+/// of the order, which are activated, and waits for nothing.
+pub fn list_ready(row: &[u32], waiting: &[u64], activated: usize, startable: &mut RankSet)
+    requires within { All (λ p. p < length startable.old) row.now }
+    requires long { length waiting.now ≡ length startable.old }
+    ensures long { length startable.new ≡ length startable.old }
+    ensures listed { (k : ℕ) → k < length startable.old → 0 < count_by (λ p. p == k) row.now →
+        bit_in startable.new k ≡ (nat_lt k activated && (slice_index waiting.now k == 0)) }
+    ensures others { (k : ℕ) → k < length startable.old → count_by (λ p. p == k) row.now ≡ 0 →
+        bit_in startable.new k ≡ bit_in startable.old k }
+{
+    for place in row {
+        let place = *place as usize;
+        startable.put(place, place < activated && waiting[place] == 0);
     }
 }

@@ -47,11 +47,12 @@ fn run_one(core: &mut Core, task: u32) -> bool {
 // A task that runs, and then used, booked and activated.
 type Ran = (u32, (u64, u64, u32));
 
-// Activates what fits, runs a task, and then memory is this.
+// Activates what fits, runs the next task, and then memory is this.
 fn check_ran(rt: &impl Abort, core: &mut Core, (task, memory): Ran) {
     for _task in 0..5 {
         let _ = core.activate();
     }
+    assert_eq!(rt; core.next_startable(), Some(task));
     assert_eq!(rt; run_one(core, task), true);
     assert_eq!(rt; sums(core), memory);
 }
@@ -79,12 +80,20 @@ fn a_core_event_by_event(rt: HostRuntime) -> Result<(), Fail> {
 fn a_reader_waits_for_the_producer(rt: HostRuntime) -> Result<(), Fail> {
     let fan = fan(rt.alloc())?;
     let mut core = Core::new(rt.alloc(), &fan, &[1, 2, 3, 4, 5], 9, 2)?;
-    assert_eq!(&rt; (core.activate(), core.activate()), (Some(1), Some(2)));
+    assert_eq!(&rt;
+        (core.next_startable(), core.activate(), core.activate()),
+        (None, Some(1), Some(2))
+    );
     assert_eq!(&rt; (core.may_start(2), core.start(2)), (false, false));
-    assert_eq!(&rt; (core.start(1), core.running().len()), (true, 1));
+    assert_eq!(&rt;
+        (core.next_startable(), core.start(1), core.running().len()),
+        (Some(1), true, 1)
+    );
+    assert_eq!(&rt; core.next_startable(), None);
     assert_eq!(&rt;
         (core.finish(1), core.is_done(1), core.may_start(2)),
         (true, true, true)
     );
+    assert_eq!(&rt; core.next_startable(), Some(2));
     Ok(())
 }

@@ -20,8 +20,8 @@ invariant_of-self c =
     let here = read_here a f.activated c.index-task.result.now left c.index-task.ensures in
     let cost = number_here a left here a.fixed.needs_are c.index-need.ensures in
     let legal = may_activate a left here cost c.if-self-need.false in
-    activated_tables a left here cost (c.event_law.ensures.kept _ a.setting _ a.safe Activate _ legal)
-    (c.event_law.ensures.change _ a.setting _ a.safe Activate _ legal)
+    rw c.put.ensures (activated_tables a legal cost (c.event_law.ensures.kept _ a.setting _ a.safe Activate _ legal)
+    (c.event_law.ensures.change _ a.setting _ a.safe Activate _ legal) c.index.ensures)
 
 pub returns-then-self-need-clause-none : goal.returns-then-self-need-clause-none
 returns-then-self-need-clause-none c =

@@ -50,6 +50,7 @@ invariant_of-result c =
           (c.order_law.ensures.long system order c.requires.traversal) c.requires.traversal.tasks c.in_ok-places.ensures.there;
       sizes_are = c.in_ok-readings.ensures.sizes;
     })
-    c.in_ok-waiting.waiting.items c.in_ok-waiting.ensures c.in_ok-readings.readings.left.items c.in_ok-readings.ensures.left c.start_memory-memory.result c.start_memory-memory.ensures in
-    rw (c.in_ok-running.ensures, count, phases, c.in_ok-order.ensures.items, c.of.ensures)
+    c.in_ok-waiting.waiting.items c.in_ok-waiting.ensures (c.order_law.ensures.long system order c.requires.traversal)
+    c.in_ok-readings.readings.left.items c.in_ok-readings.ensures.left c.start_memory-memory.result c.start_memory-memory.ensures in
+    rw (c.in_ok-running.ensures, c.in_ok-startable.ensures, count, phases, c.in_ok-order.ensures.items, c.of.ensures)
     tables

@@ -9,7 +9,7 @@ use Rattle.activation.specs.declared.events.Phase.TheVariants.{Done}
 use Rattle.activation.specs.declared.events.EventKind.TheVariants.{Finish}
 use Rattle.activation.proofs.Phases.{phase_written}
 use Rattle.activation.proofs.Keeping.{read_here, number_here, runs_here, rests_here, finish_is_task, finish_frees}
-use Rattle.activation.proofs.Keeping.{finish_within, finish_enough, finish_waiting, finished_tables}
+use Rattle.activation.proofs.Keeping.{finish_within, finish_enough, finish_waiting, finish_startable, finished_tables}
 use Rattle.activation.proofs.Keeping.{finish_reads, finish_total, finish_freed}
 use Rattle.activation.proofs.cores.Core.finish_at.Goals as goal
 
@@ -137,7 +137,7 @@ release-requires-clause-within c =
     let w : c.args.place < length f.order.items = rw (← c.self.view_is) at c.requires in
     let here = read_here a c.args.place c.index-task.result.now w c.index-task.ensures in
     let h = runs_here a w here c.index.ensures (sym c.is_running.ensures ∙ c.if-not-is_running.false) in
-    rw (c.row-2.ensures, c.deref_mut-2.ensures.value) (finish_within a h w here)
+    rw (c.row-consumers.ensures, c.deref_mut-2.ensures.value) (finish_within a h w here)
 
 pub release-requires-clause-enough : goal.release-requires-clause-enough
 release-requires-clause-enough c =
@@ -146,7 +146,7 @@ release-requires-clause-enough c =
     let w : c.args.place < length f.order.items = rw (← c.self.view_is) at c.requires in
     let here = read_here a c.args.place c.index-task.result.now w c.index-task.ensures in
     let h = runs_here a w here c.index.ensures (sym c.is_running.ensures ∙ c.if-not-is_running.false) in
-    rw (c.row-2.ensures, c.deref_mut-2.ensures.value) (finish_enough a h w here)
+    rw (c.row-consumers.ensures, c.deref_mut-2.ensures.value) (finish_enough a h w here)
 
 pub invariant_of-self : goal.invariant_of-self
 invariant_of-self c =
@@ -162,7 +162,7 @@ invariant_of-self c =
     (number_here a w here a.fixed.frees_are c.index-fixed.ensures) last in
     let now = c.release.new.waiting in
     let len : length now ≡ f.waiting.len = omega (arith, c.release.auto.waiting, c.deref_mut-2.ensures.len) in
-    let released = rw (c.row-2.ensures, c.deref_mut-2.ensures.value) at c.release.ensures in
+    let released = rw (c.row-consumers.ensures, c.deref_mut-2.ensures.value) at c.release.ensures in
     let waits = finish_waiting a h w here now
     (omega (arith, len, c.deref_mut-2.ensures.len, ap length c.deref_mut-2.ensures.value)) released in
     let left = c.take_readers-last_read.new.left in
@@ -170,8 +170,38 @@ invariant_of-self c =
     let taken = rw (c.row.ensures, c.deref_mut.ensures.value) at c.take_readers-last_read.ensures.left in
     let lefts = (finish_reads a h w here).after left
     (omega (arith, left_len, c.deref_mut.ensures.len, ap length c.deref_mut.ensures.value)) taken in
+    let places = c.list_ready.new.startable in
+    let marks = finish_startable a h w here now waits places c.list_ready.ensures.long
+    (rw (c.row-consumers.ensures, c.deref-2.ensures.value ∙ take_at now (drop (length now) f.waiting.items) f.waiting.len len)
+    at c.list_ready.ensures.listed) (rw c.row-consumers.ensures at c.list_ready.ensures.others) in
     rw (take_at now (drop (length now) f.waiting.items) f.waiting.len len, take_at left (drop (length left) f.left.items) f.left.len left_len)
     (finished_tables a h (c.index-fixed.result.now + c.take_readers-last_read.result) freed
     (c.event_law.ensures.change _ a.setting _ a.safe Finish c.index-task.result.now h)
     (c.event_law.ensures.kept _ a.setting _ a.safe Finish c.index-task.result.now h) c.remove.new.self
-    c.remove.ensures.members c.remove.ensures.shorter c.remove.ensures.room c.remove.ensures.count now waits left lefts)
+    c.remove.ensures.members c.remove.ensures.shorter c.remove.ensures.room c.remove.ensures.count now waits places marks left lefts)
+
+pub list_ready-requires-clause-within : goal.list_ready-requires-clause-within
+list_ready-requires-clause-within c =
+    let f = c.self.inside in
+    let a = c.self.invariant in
+    let w : c.args.place < length f.order.items = rw (← c.self.view_is) at c.requires in
+    let here = read_here a c.args.place c.index-task.result.now w c.index-task.ensures in
+    let h = runs_here a w here c.index.ensures (sym c.is_running.ensures ∙ c.if-not-is_running.false) in
+    rw c.row-consumers.ensures (λ i d v. omega (arith, finish_within a h w here i d v, a.waiting_are.long, a.startable_are.long))
+
+pub list_ready-requires-clause-long : goal.list_ready-requires-clause-long
+list_ready-requires-clause-long c =
+    let f = c.self.inside in
+    let a = c.self.invariant in
+    let now = c.release.new.waiting in
+    let len : length now ≡ f.waiting.len = omega (arith, c.release.auto.waiting, c.deref_mut-2.ensures.len) in
+    let read = ap length (c.deref-2.ensures.value ∙ take_at now (drop (length now) f.waiting.items) f.waiting.len len) in
+    omega (
+      arith,
+      read,
+      len,
+      c.deref_mut-2.ensures.len,
+      ap length c.deref_mut-2.ensures.value,
+      a.waiting_are.long,
+      a.startable_are.long,
+    )

@@ -45,9 +45,10 @@ invariant_of-self c =
     let here = read_here c.self.invariant c.args.place c.index-task.result.now w c.index-task.ensures in
     let h = rw (← c.self.view_is, here) at c.may_start_at.ensures.0 c.if-not-may_start_at.false in
     let cost = number_here a w here a.fixed.needs_are c.index-need.ensures in
-    started_tables a h cost (c.event_law.ensures.change _ a.setting _ a.safe Start c.index-task.result.now h)
+    rw c.put.ensures (started_tables a h cost (c.event_law.ensures.change _ a.setting _ a.safe Start c.index-task.result.now h)
     (c.event_law.ensures.kept _ a.setting _ a.safe Start c.index-task.result.now h) c.add.new.self
     (ap (λ r. r.listed) c.add.ensures) (ap (λ r. r.room) c.add.ensures) (ap (λ r. r.count) c.add.ensures)
+    c.args.place w here)
 
 pub returns-clause-next : goal.returns-clause-next
 returns-clause-next c =
