@@ -7,6 +7,7 @@ mod OrderlyRounds
 mod HeldLemmas
 mod Additions
 mod Gathered
+mod CrewLemmas
 mod JobLemmas
 mod Starts
 mod MostUsed

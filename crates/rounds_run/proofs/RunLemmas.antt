@@ -1,9 +1,8 @@
 -- Round after round.
 use Rattle.std.proofs.Common.{◌≡◌, ℕ, ◌+◌, ◌<◌, ◌≤◌, Bool, true, false, cond, ◌||◌, List, [], ◌∷◌}
 use Rattle.std.proofs.Common.{◌++◌, length, get_or, set, take, refl, sym, ap, subst, ◌∙◌, arith}
-use Rattle.std.specs.Prelude.{Result, IfOk, nat_eq}
+use Rattle.std.specs.Prelude.{nat_eq}
 use Rattle.std.specs.List.{list_any, IsDistinct}
-use Rattle.std.specs.declared.alloc.AllocError.{AllocError}
 use Rattle.std.proofs.lemmas.List.{get_or_default, take_all, length_push, length-set, take-take, take_at, get_or_push, get_or-take}
 use Rattle.std.proofs.lemmas.List.Folds.{list_any_more}
 use Rattle.patterns.specs.Pattern.{has}
@@ -14,7 +13,7 @@ use Rattle.rounds_run.specs.declared.front.Job.{Job}
 use Rattle.rounds_run.specs.declared.front.Made.{Made}
 use Rattle.rounds_run.specs.declared.held.Held.{Held}
 use Rattle.rounds_run.specs.FrontRows.{list_of_front}
-use Rattle.rounds_run.specs.Holding.{Factor, IsHeld, IsHandedBack, AreJobsOf, AreMadeOf, AreOrderly, AreDue, in_rounds, or_in, front_rows}
+use Rattle.rounds_run.specs.Holding.{Factor, IsHeld, IsHandedBack, AreHandedBack, AreJobsOf, AreMadeOf, AreOrderly, AreDue, in_rounds, or_in, front_rows}
 use Rattle.rounds_run.proofs.HeldLemmas.{held_same}
 
 -- a round that is read from the list
@@ -53,19 +52,16 @@ all_made f rounds i held is end held_is s super =
     held_is.kept s super (ap (λ z. list_any (λ list. has list s) z) (take_all i rounds end) ∙ is.all s super)
 
 -- what the tasks made, by the supernodes of the round
-pub made_of : (f : Factor) (round : List ℕ) (jobs : List Job) (made : List (Result Made AllocError)) → AreJobsOf f round jobs
-    → length made ≡ length jobs
-    → ((i : ℕ) (d : Result Made AllocError) (e : Job) → i < length jobs → IfOk (get_or made i d)
-    (IsHandedBack f.joined f.order (get_or jobs i e).first (get_or jobs i e).columns))
-    → AreMadeOf f round made
-made_of f round jobs made are long each = (
-  long ∙ are.0,
+pub made_of : (f : Factor) (round : List ℕ) (jobs : List Job) (made : List Made) → AreJobsOf f round jobs
+    → AreHandedBack f.joined f.order jobs made → AreMadeOf f round made
+made_of f round jobs made are back = (
+  back.0 ∙ are.0,
   λ i d lt.
-      let job : Job = record { place = 0; first = 0; columns = 0; children = [] } in
+      let job : Job = record { place = 0; first = 0; columns = 0; rest = 0; children = [] } in
       let here = are.1 i job lt in
-      let in_jobs : i < length jobs = omega (arith, are.0) in
-      subst (λ n. IfOk (get_or made i d) (IsHandedBack f.joined f.order (first_of f.supers (get_or round i 0)) n)) here.columns
-      (subst (λ n. IfOk (get_or made i d) (IsHandedBack f.joined f.order n (get_or jobs i job).columns)) here.first (each i d job in_jobs)),
+      let in_jobs : i < length jobs = omega (arith, lt, are.0) in
+      subst (λ n. IsHandedBack f.joined f.order (first_of f.supers (get_or round i 0)) n (get_or made i d)) here.columns
+      (subst (λ n. IsHandedBack f.joined f.order n (get_or jobs i job).columns (get_or made i d)) here.first (back.1 i d job in_jobs)),
 )
 
 -- ---- what was handed back, from the last on

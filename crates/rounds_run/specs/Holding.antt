@@ -1,9 +1,8 @@
 -- No public clause names this.
 -- The fronts as they are made: what a task is given and hands back, and what is held between the rounds.
-use Rattle.std.specs.Prelude.{◌≡◌, ◌↔◌, ℕ, ◌-◌, ◌<◌, ◌≤◌, Bool, true, false, IsTrue, ◌||◌, nat_eq, List, [], Result, IfOk, length}
+use Rattle.std.specs.Prelude.{◌≡◌, ◌↔◌, ℕ, ◌-◌, ◌<◌, ◌≤◌, Bool, true, false, IsTrue, ◌||◌, nat_eq, List, [], length}
 use Rattle.std.specs.Prelude.{drop, take, slice_index, slice_index_or}
 use Rattle.std.specs.List.{IsDistinct}
-use Rattle.std.specs.declared.alloc.AllocError.{AllocError}
 use Rattle.patterns.specs.Pattern.{has}
 use Rattle.permutations.specs.Perm.{IsVertex}
 use Rattle.ordering.specs.Fill.{IsAdjacency, count_of, parents_of, counts_of}
@@ -50,17 +49,23 @@ pub record IsHandedBack (joined : ℕ → ℕ → Bool) (n first columns : ℕ) 
 abbrev pub IsMadeOf : Factor → ℕ → Made → Type 0
 IsMadeOf f s made = IsHandedBack f.joined f.order (first_of f.supers s) (super_at f.supers s).columns made
 
+-- what tasks hand back, in their order
+abbrev pub AreHandedBack : (ℕ → ℕ → Bool) → ℕ → List Job → List Made → Type 0
+AreHandedBack joined n jobs made =
+    (length made ≡ length jobs)
+    × ((i : ℕ) (d : Made) (e : Job) → i < length jobs →
+    IsHandedBack joined n (slice_index_or jobs i e).first (slice_index_or jobs i e).columns (slice_index_or made i d))
+
 -- the tasks of a round, in its order, and what they hand back
 abbrev pub AreJobsOf : Factor → List ℕ → List Job → Type 0
 AreJobsOf f round jobs =
     (length jobs ≡ length round)
     × ((i : ℕ) (d : Job) → i < length round → IsJobOf f (slice_index round i) (slice_index_or jobs i d))
 
-abbrev pub AreMadeOf : Factor → List ℕ → List (Result Made AllocError) → Type 0
+abbrev pub AreMadeOf : Factor → List ℕ → List Made → Type 0
 AreMadeOf f round made =
     (length made ≡ length round)
-    × ((i : ℕ) (d : Result Made AllocError) → i < length round →
-    IfOk (slice_index_or made i d) (IsMadeOf f (slice_index round i)))
+    × ((i : ℕ) (d : Made) → i < length round → IsMadeOf f (slice_index round i) (slice_index_or made i d))
 
 -- row i was left to supernode s by a child that is done
 abbrev pub HandedOver : Factor → (ℕ → Bool) → ℕ → ℕ → Type 0

@@ -26,6 +26,8 @@ pub struct Job {
     pub first: u32,
     /// How many columns the supernode has.
     pub columns: u32,
+    /// How many rows the front has past these.
+    pub rest: u32,
     /// What its children left to it.
     pub children: Inbox,
 }
@@ -72,11 +74,16 @@ fn rest_of(alloc: Global, rows: &[u32], columns: u32) -> Result<Vec<u32>, NoMemo
 
 /// The rows of a front: its first column, the later neighbours of that, and the rows that its children left to it, each once. Near linear
 /// in what these hold: they are sorted.
-pub fn make_front(alloc: Global, pattern: &Pattern, perm: &Perm, job: Job) -> Result<Made, NoMemory>
+pub fn make_front(
+    alloc: Global,
+    pattern: &Pattern,
+    perm: &Perm,
+    job: &Job,
+) -> Result<Made, NoMemory>
     requires perm { length perm.now ≡ length pattern.now }
-    requires job { IsJob (renumbered (is_joined pattern.now) perm.now) (length perm.now) job }
+    requires job { IsJob (renumbered (is_joined pattern.now) perm.now) (length perm.now) job.now }
     ensures { IfOk result
-        (IsHandedBack (renumbered (is_joined pattern.now) perm.now) (length perm.now) job.first job.columns) }
+        (IsHandedBack (renumbered (is_joined pattern.now) perm.now) (length perm.now) job.now.first job.now.columns) }
 {
     structure_by_children();
     path_theorem();

@@ -72,11 +72,13 @@ impl Held {
         let mut jobs = Vec::with_capacity(alloc, round.len())?;
         for (place, node) in round.iter().enumerate() {
             let at = *node as usize - 1;
+            let supernode = supers[at];
             let children = self.take_lists(alloc, *node);
             jobs.push(Job {
                 place: place as u32,
                 first: firsts[at],
-                columns: supers[at].columns,
+                columns: supernode.columns,
+                rest: supernode.rest,
                 children,
             })?;
         }
@@ -105,7 +107,7 @@ impl Held {
         &mut self,
         supers: &[Super],
         round: &[u32],
-        made: Vec<Result<Made, NoMemory>>,
+        made: Vec<Made>,
     ) -> Result<(), NoMemory>
         requires within { (s : ℕ) → has round.now s ≡ true → IsSuper supers.now s }
         requires parents { All (λ x. x.parent ≤ length supers.now) supers.now }
@@ -118,7 +120,7 @@ impl Held {
         while let Some(next) = left.pop() {
             let node = round[left.len()];
             let parent = supers[node as usize - 1].parent;
-            self.keep(node, parent, next?)?;
+            self.keep(node, parent, next)?;
         }
         Ok(())
     }

@@ -11,6 +11,7 @@
 //! The definitions stand in specs/ (`FrontRows`, `RowSystem`, `Rounds`, `Fronts`), in the crate `ordering` (`Fill`) and in `activation`.
 #![tactic(auto)]
 
+mod crews;
 mod front;
 mod fronts;
 mod gathering;

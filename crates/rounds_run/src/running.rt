@@ -1,6 +1,6 @@
 //! The fronts, round by round.
 
-ghost use Rattle.std.specs.Prelude.{◌≡◌, ◌+◌, ◌-◌, ◌≤◌, ◌<◌, ◌^◌, ℕ, Bool, true, All, length, drop, slice_index_or, IfOk, IfErr, OnOk};
+ghost use Rattle.std.specs.Prelude.{◌≡◌, ◌+◌, ◌-◌, ◌≤◌, ◌<◌, ◌^◌, ℕ, Bool, true, All, length, drop, IfOk, IfErr, OnOk};
 ghost use Rattle.limits.specs.Limits.{most_workers, most_order};
 ghost use Rattle.patterns.specs.Pattern.{is_joined};
 ghost use Rattle.ordering.specs.Fill.{renumbered, parents_of, counts_of};
@@ -10,10 +10,10 @@ ghost use Rattle.rounds_run.specs.FrontRows.{rows_of_front, list_of_front};
 ghost use Rattle.rounds_run.specs.RowSystem.{row_peak, row_setting};
 ghost use Rattle.rounds_run.specs.Rounds.{AreRounds};
 ghost use Rattle.rounds_run.specs.Fronts.{IsFrontsRefusal};
-ghost use Rattle.rounds_run.specs.Holding.{Factor, IsFactor, IsHeld, IsJob, IsHandedBack, AreJobsOf, AreMadeOf, AreOrderly, AreFirsts};
+ghost use Rattle.rounds_run.specs.Holding.{Factor, IsFactor, IsHeld, AreJobsOf, AreOrderly, AreFirsts};
 
 use crate::NoMemory;
-use crate::front::{Job, Made, make_front};
+use crate::crews::{Starts, make_round};
 use crate::fronts::Fronts;
 use crate::held::Held;
 use crate::planning::plan_rounds;
@@ -27,7 +27,6 @@ use patterns::Pattern;
 use permutations::Perm;
 use row_table::NumberList;
 use std::alloc::Global;
-use std::thread;
 use std::thread::Threads;
 
 // The first column of each supernode.
@@ -42,37 +41,6 @@ fn first_columns(alloc: Global, supers: &[Super]) -> Result<Vec<u32>, NoMemory>
         first += supernode.columns;
     }
     Ok(firsts)
-}
-
-// The fronts of a round, each by a thread of its own.
-fn make_fronts<R: Threads + Sync, G: Gate>(
-    rt: &R,
-    alloc: Global,
-    pattern: &Pattern,
-    perm: &Perm,
-    jobs: Vec<Job>,
-    gate: &G,
-) -> Result<Vec<Result<Made, NoMemory>>, NoMemory>
-    requires perm { length perm.now ≡ length pattern.now }
-    requires jobs { All (IsJob (renumbered (is_joined pattern.now) perm.now) (length perm.now)) jobs.items }
-    ensures len { IfOk result (λ made. length made.items ≡ length jobs.items) }
-    ensures each { IfOk result (λ made. (i : ℕ) (d : _) (e : Job) → i < length jobs.items → IfOk (slice_index_or made.items i d)
-        (IsHandedBack (renumbered (is_joined pattern.now) perm.now) (length perm.now)
-        (slice_index_or jobs.items i e).first (slice_index_or jobs.items i e).columns)) }
-{
-    thread::map_vec(
-        rt,
-        jobs,
-        &|job: Job| -> Result<Made, NoMemory>
-            requires { (length perm.now ≡ length pattern.now)
-                × IsJob (renumbered (is_joined pattern.now) perm.now) (length perm.now) job }
-            ensures { IfOk result
-                (IsHandedBack (renumbered (is_joined pattern.entry.now) perm.entry.now) (length perm.entry.now) job.first job.columns) }
-        {
-            gate.enter(job.place);
-            make_front(alloc, pattern, perm, job)
-        },
-    )
 }
 
 // Runs round after round.
@@ -101,10 +69,12 @@ fn run_rounds<R: Threads + Sync, G: Gate>(
 {
     let firsts = first_columns(alloc, supers)?;
     let mut held = Held::new(alloc, supers.len())?;
+    let mut starts = Starts::new();
     for list in rounds {
         let round = list.as_slice();
         let jobs = held.jobs(alloc, supers, &firsts, round)?;
-        let made = make_fronts(rt, alloc, pattern, perm, jobs, gate)?;
+        let crews = starts.crews_for(&jobs);
+        let made = make_round(rt, alloc, pattern, perm, &jobs, crews, gate)?;
         held.keep_all(supers, round, made)?;
     }
     let Held { rows, .. } = held;
@@ -116,9 +86,9 @@ fn run_rounds<R: Threads + Sync, G: Gate>(
 /// A front's list is made of those that its children left to it, which it takes with it; its own rows past its columns are left to its
 /// parent, and count until that has run. The rows of the columns are kept, as rows of the factor, and do not count. In a round fronts are
 /// activated, in the order of their numbers, while they fit under the bound beside what is booked; then the first of them that have all
-/// their children's lists start, as many as there are workers; and all are made at the same time, each by a thread of its own, which calls
-/// the gate once, with its place in the round from 0. The rows are the same for every number of workers, and everything is the same for
-/// every gate.
+/// their children's lists start, as many as there are workers; and all are made, by as many threads as pay for their rows. Each calls the
+/// gate once, with its place in the round from 0, in the thread that makes it. The rows are the same for every number of workers, and
+/// everything is the same for every gate.
 ///
 /// The bound is refused where it is below the peak of the fronts in the order of their numbers. Near linear in what the lists hold, and in
 /// the entries. Duff and Reid 1983; Liu 1992; for the rounds Agullo et al. 2016.

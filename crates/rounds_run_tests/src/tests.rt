@@ -220,19 +220,33 @@ fn each_front_enters_once(rt: HostRuntime) -> Result<(), Fail> {
     Ok(())
 }
 
-// Sets a bit for each place, and holds a front until the first two have entered, for so many looks at most.
+// Sets a bit for each place, and holds those fronts that are awaited until all of them have entered, for so many looks at most.
 #[derive(Drop)]
 struct Meeting {
+    awaited: u32,
     entered: AtomicU32,
     gave_up: AtomicBool,
 }
 
+impl Meeting {
+    fn of(awaited: u32) -> Meeting {
+        Meeting {
+            awaited,
+            entered: AtomicU32::new(0),
+            gave_up: AtomicBool::new(false),
+        }
+    }
+}
+
 impl Gate for Meeting {
     fn enter(&self, place: u32) {
-        self.entered
-            .fetch_or(1u32.wrapping_shl(place), Ordering::SeqCst);
+        let here = 1u32.wrapping_shl(place);
+        self.entered.fetch_or(here, Ordering::SeqCst);
+        if here & self.awaited == 0 {
+            return;
+        }
         for _ in 0..10_000_000u32 {
-            if self.entered.load(Ordering::SeqCst) == 0b11 {
+            if self.entered.load(Ordering::SeqCst) & self.awaited == self.awaited {
                 return;
             }
             yield_now();
@@ -243,13 +257,92 @@ impl Gate for Meeting {
 
 #[test]
 fn two_fronts_meet(rt: HostRuntime) -> Result<(), Fail> {
-    let gate = Meeting {
-        entered: AtomicU32::new(0),
-        gave_up: AtomicBool::new(false),
-    };
+    let gate = Meeting::of(0b11);
     let made = fronts(&rt, rt.alloc(), ARROW, ENDS_FIRST, 4, 2, &gate)??;
     assert_eq!(rt; made.rounds(), 2);
     assert_eq!(rt; gate.entered.load(Ordering::SeqCst), 0b11);
     assert!(rt; !gate.gave_up.load(Ordering::SeqCst));
+    Ok(())
+}
+
+// A matrix whose first vertices, the ends, are each joined to all that come after them, the middle.
+fn ends_and_middle(alloc: Global, ends: u32, middle: u32) -> Result<String, Fail> {
+    let order = ends.wrapping_add(middle);
+    let entries = ends.wrapping_mul(middle);
+    let mut matrix = format!(in alloc;
+        "%%MatrixMarket matrix coordinate pattern symmetric\n{order} {order} {entries}\n"
+    )?;
+    for end in 1..=ends {
+        for vertex in ends.wrapping_add(1)..=order {
+            matrix.push_str(format!(in alloc; "{vertex} {end}\n")?.as_str())?;
+        }
+    }
+    Ok(matrix)
+}
+
+// The numbers from one to another.
+fn numbers(alloc: Global, from: u32, to: u32) -> Result<Vec<u32>, Fail> {
+    let mut numbers = Vec::new(alloc);
+    for number in from..=to {
+        numbers.push(number)?;
+    }
+    Ok(numbers)
+}
+
+// The order of the numbers, as a file has it.
+fn rising(alloc: Global, to: u32) -> Result<String, Fail> {
+    let mut order = String::new(alloc);
+    for number in 1..=to {
+        order.push_str(format!(in alloc; "{number}\n")?.as_str())?;
+    }
+    Ok(order)
+}
+
+// A hundred fronts of one row each, four in a round, each of which enters once.
+#[test]
+fn many_small_fronts(rt: HostRuntime) -> Result<(), Fail> {
+    let alloc = rt.alloc();
+    let gate = Counts {
+        entered: AtomicU32::new(0),
+        places: AtomicU32::new(0),
+    };
+    let matrix = ends_and_middle(alloc, 100, 0)?;
+    let order = rising(alloc, 100)?;
+    let made = fronts(&rt, alloc, &matrix, &order, 100, 4, &gate)??;
+    assert_eq!(rt; made.len(), 100);
+    for s in 0..made.len() {
+        assert_eq!(rt; made.rows(s + 1), numbers(alloc, s + 1, s + 1)?.as_slice());
+    }
+    assert_eq!(rt; made.rounds(), 25);
+    for r in 0..made.rounds() {
+        let first = r.wrapping_mul(4).wrapping_add(1);
+        let four = numbers(alloc, first, first.wrapping_add(3))?;
+        assert_eq!(rt; made.round(r + 1), four.as_slice());
+    }
+    assert_eq!(rt; gate.entered.load(Ordering::SeqCst), 100);
+    assert_eq!(rt; gate.places.load(Ordering::SeqCst), 0b1111);
+    Ok(())
+}
+
+// Twelve fronts of 8,001 rows in one round are made in two halves: the first and the seventh meet. The middle takes up all they leave.
+#[test]
+fn the_halves_of_a_wide_round_meet(rt: HostRuntime) -> Result<(), Fail> {
+    let alloc = rt.alloc();
+    let gate = Meeting::of(0b100_0001);
+    let matrix = ends_and_middle(alloc, 12, 8000)?;
+    let order = rising(alloc, 8012)?;
+    let made = fronts(&rt, alloc, &matrix, &order, 200_000, 16, &gate)??;
+    assert_eq!(rt; gate.entered.load(Ordering::SeqCst), 0b1111_1111_1111);
+    assert!(rt; !gate.gave_up.load(Ordering::SeqCst));
+    assert_eq!(rt; made.used(), 104_000);
+    assert_eq!(rt; made.rounds(), 2);
+    assert_eq!(rt; made.round(1), numbers(alloc, 1, 12)?.as_slice());
+    assert_eq!(rt; made.len(), 13);
+    let middle = numbers(alloc, 13, 8012)?;
+    for s in 0..made.len() {
+        let mut rows = numbers(alloc, s + 1, (s + 1).min(12))?;
+        rows.extend_from_slice(&middle)?;
+        assert_eq!(rt; made.rows(s + 1), rows.as_slice());
+    }
     Ok(())
 }

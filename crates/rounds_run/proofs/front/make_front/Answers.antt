@@ -25,7 +25,7 @@ laws_of c =
     }
 
 rows_are : (c : After-deref) → c.dedup.new.self.items
-    ≡ rows_of_front (renumbered (is_joined c.args.pattern.now) c.args.perm.now) (length c.args.perm.now) c.args.job.first
+    ≡ rows_of_front (renumbered (is_joined c.args.pattern.now) c.args.perm.now) (length c.args.perm.now) c.args.job.now.first
 rows_are c =
     let rows = c.args.pattern.now in
     let order = c.args.perm.now in
@@ -36,10 +36,10 @@ rows_are c =
       place = c.places_are_inverse.ensures.place (length order) order c.keeps-2.ensures;
     } in
     dedup_is eqb c.sort_unstable.new.self.items c.dedup.new.self.items c.dedup.ensures.filtered
-    ∙ gathered_rows rows order ordered (laws_of c) c.args.job.first c.requires.job.first c.args.job.children c.requires.job.children
+    ∙ gathered_rows rows order ordered (laws_of c) c.args.job.now.first c.requires.job.first c.args.job.now.children c.requires.job.children
     c.in_ok-rows.rows.items c.sort_unstable.new.self.items
     (λ x. c.in_ok-rows.ensures x
-    ∙ ap (λ z. is_gathered order (neighbours_of rows (vertex_at order c.args.job.first)) z c.args.job.first x) c.as_slice.ensures)
+    ∙ ap (λ z. is_gathered order (neighbours_of rows (vertex_at order c.args.job.now.first)) z c.args.job.now.first x) c.as_slice.ensures)
     c.sort_unstable.ensures.permutation c.sort_unstable.ensures.sorted
 
 pub rest_of-requires : goal.rest_of-requires
@@ -48,12 +48,12 @@ rest_of-requires c =
     let n = length c.args.perm.now in
     let before = (goal.at.rest_of-requires c).After-deref in
     let long = ap (λ (z : List ℕ). length z) (c.deref.ensures.value ∙ rows_are before) in
-    omega (arith, long, rows_long joined n (laws_of before) c.args.job.first, c.requires.job.columns)
+    omega (arith, long, rows_long joined n (laws_of before) c.args.job.now.first, c.requires.job.columns)
 
 pub returns : goal.returns
 returns c =
     let before = (goal.at.returns c).After-deref in
     record {
       rows = c.new.ensures ∙ rows_are before;
-      rest = c.new-2.ensures ∙ c.in_ok-rest.ensures ∙ ap (drop c.args.job.columns) (c.deref.ensures.value ∙ rows_are before);
+      rest = c.new-2.ensures ∙ c.in_ok-rest.ensures ∙ ap (drop c.args.job.now.columns) (c.deref.ensures.value ∙ rows_are before);
     }

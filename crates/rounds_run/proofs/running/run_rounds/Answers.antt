@@ -1,7 +1,7 @@
-use Rattle.std.proofs.Common.{◌≡◌, refl, [], length, get_or, ap, sym, ◌∙◌, arith}
+use Rattle.std.proofs.Common.{◌≡◌, refl, [], length, get_or, ap, sym, subst, ◌∙◌, arith}
 use Rattle.patterns.specs.Pattern.{has, is_joined}
 use Rattle.ordering.specs.Fill.{renumbered}
-use Rattle.rounds_run.specs.Holding.{Factor, IsHeld, AreJobsOf, in_rounds, or_in}
+use Rattle.rounds_run.specs.Holding.{Factor, IsJob, IsHeld, AreHandedBack, AreJobsOf, in_rounds, or_in}
 use Rattle.rounds_run.proofs.RunLemmas.{round_is, round_due, held_next, all_made, made_of}
 use Rattle.rounds_run.proofs.running.run_rounds.Goals as goal
 use Rattle.rounds_run.proofs.running.run_rounds.Goals.{In_ok-jobs}
@@ -44,10 +44,13 @@ held_then g c =
     } in
     c.in_ok-jobs.ensures.held f (in_rounds c.args.rounds.now c.loop-list.list-index) refl c.loop-list.invariant
 
-pub make_fronts-requires-clause-jobs : goal.make_fronts-requires-clause-jobs
-make_fronts-requires-clause-jobs g c = λ κs lives k d lt.
-    let are = jobs_are g c in
-    (are.1 k d (omega (arith, lt, are.0))).ready
+pub make_round-requires-clause-jobs : goal.make_round-requires-clause-jobs
+make_round-requires-clause-jobs g c = λ κs lives k d lt.
+    let are = jobs_are g (goal.at.make_round-requires-clause-jobs g c).In_ok-jobs in
+    let joined = renumbered (is_joined c.args.pattern.now) c.args.perm.now in
+    let same = c.deref-in-loop-list-2.ensures.value in
+    subst (λ z. IsJob joined (length c.args.perm.now) (get_or z k d)) (sym same)
+    (are.1 k d (omega (arith, lt, ap length same, are.0))).ready
 
 pub keep_all-requires-clause-within : goal.keep_all-requires-clause-within
 keep_all-requires-clause-within g c = λ s there.
@@ -62,7 +65,7 @@ keep_all-requires-clause-long g c =
 pub keep_all-requires-clause-made : goal.keep_all-requires-clause-made
 keep_all-requires-clause-made g c =
     let are = jobs_are g (goal.at.keep_all-requires-clause-made g c).In_ok-jobs in
-    c.in_ok-made.ensures.len ∙ are.0
+    c.in_ok-made.ensures.0 ∙ ap length c.deref-in-loop-list-2.ensures.value ∙ are.0
 
 pub loop-list-preserved : goal.loop-list-preserved
 loop-list-preserved g c =
@@ -74,8 +77,8 @@ loop-list-preserved g c =
     } in
     let round = c.as_slice-round.result.now in
     let ran = in_rounds c.args.rounds.now c.loop-list.list-index in
-    let made = made_of f round c.in_ok-jobs.jobs.items c.in_ok-made.made.items
-    (jobs_are g before) c.in_ok-made.ensures.len c.in_ok-made.ensures.each in
+    let back = subst (λ z. AreHandedBack f.joined f.order z c.in_ok-made.made.items) c.deref-in-loop-list-2.ensures.value c.in_ok-made.ensures in
+    let made = made_of f round c.in_ok-jobs.jobs.items c.in_ok-made.made.items (jobs_are g before) back in
     held_next f c.args.rounds.now c.loop-list.list-index round c.keep_all.new.self c.loop-list-test.true (round_at g before)
     (c.in_ok-keep_all.ensures f ran refl made (held_then g before))
 

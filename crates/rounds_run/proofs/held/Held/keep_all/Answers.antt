@@ -1,6 +1,5 @@
 use Rattle.std.proofs.Common.{◌≡◌, ◌||◌, ℕ, ◌+◌, ◌-◌, ◌<◌, ◌≤◌, [], ◌∷◌, ◌++◌, length, get_or}
 use Rattle.std.proofs.Common.{set, drop, cond, eqb, ap, sym, subst, ◌∙◌, arith}
-use Rattle.std.specs.Prelude.{IfOk}
 use Rattle.std.proofs.lemmas.List.{length_push, length-set}
 use Rattle.assembly_tree.specs.Assembly.{IsSuper, no_super, super_at}
 use Rattle.rounds_run.specs.Holding.{IsHeld, IsMadeOf, or_in}
@@ -51,7 +50,7 @@ loop-next-preserved c =
     let rows = c.in_ok-keep.ensures.rows in
     let inboxes = c.in_ok-keep.ensures.inboxes in
     record {
-      rows = ap length rows ∙ length-set old.rows.items (s - 1) c.in_ok-next.field-0.rows ∙ c.loop-next.invariant.rows;
+      rows = ap length rows ∙ length-set old.rows.items (s - 1) c.in-Some.next.rows ∙ c.loop-next.invariant.rows;
       inboxes = ap length inboxes ∙ cond_long (eqb (super_at c.args.supers.now s).parent 0) old.inboxes.items
           ((super_at c.args.supers.now s).parent - 1) _ ∙ c.loop-next.invariant.inboxes;
       few = omega (arith, more, few);
@@ -62,17 +61,16 @@ loop-next-preserved c =
           let told : get_or made k c.in-Some.next ≡ c.in-Some.next =
           ap (λ (i : ℕ). get_or made i c.in-Some.next) at
           ∙ popped_at made left rest c.in-Some.next c.in-Some.ensures.items c.loop-next.invariant.are in
-          let is_made : IsMadeOf f s c.in_ok-next.field-0 =
-          subst (λ r. IfOk r (IsMadeOf f s)) (told ∙ c.in_ok-next.was) (made_is.1 k c.in-Some.next lt) in
+          let is_made : IsMadeOf f s c.in-Some.next = subst (IsMadeOf f s) told (made_is.1 k c.in-Some.next lt) in
           let inside : (super_at f.supers s).parent ≤ length f.supers =
           subst (λ z. (super_at z s).parent ≤ length z) (sym supers_is)
           (c.requires.parents (s - 1) no_super (omega (arith, node.0, node.1))) in
           let next : k + 1 ≡ length left = omega (arith, at, more) in
-          let now = held_made f (or_in ran round) (or_in ran (drop (length left) round)) (or_in ran (drop k round)) s c.in_ok-next.field-0
+          let now = held_made f (or_in ran round) (or_in ran (drop (length left) round)) (or_in ran (drop k round)) s c.in-Some.next
           old new own inside rows
           (subst (λ z. new.inboxes.items ≡ cond (eqb (super_at z s).parent 0) old.inboxes.items
           (set old.inboxes.items ((super_at z s).parent - 1)
-          (get_or old.inboxes.items ((super_at z s).parent - 1) [] ++ c.in_ok-next.field-0.rest ∷ []))) (sym supers_is) inboxes)
+          (get_or old.inboxes.items ((super_at z s).parent - 1) [] ++ c.in-Some.next.rest ∷ []))) (sym supers_is) inboxes)
           is_made
           (λ t. or_in_before ran round k t lt ∙ ap (λ (n : ℕ). or_in ran (drop n round) t || eqb s t) next) before in
           subst (λ z. IsHeld f (or_in ran round) (or_in ran (drop z round)) new) at now;
