@@ -40,8 +40,12 @@ abbrev pub is_three : Option (List ℕ) → Bool
 is_three None = false
 is_three (Some word) = bytes_eq word (codes "3")
 
+-- whether a line says version 3
+abbrev pub says_third : Row → Bool
+says_third row = is_three (after_word (codes "plan") row.tokens)
+
 abbrev pub third_header_tests : Row → List (Test PlanKind)
-third_header_tests row = test (is_three (after_word (codes "plan") row.tokens)) (fault kinds.Header row) ∷ []
+third_header_tests row = test (says_third row) (fault kinds.Header row) ∷ []
 
 -- ---- `bound L`
 

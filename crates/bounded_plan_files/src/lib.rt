@@ -13,6 +13,7 @@ mod sort;
 mod stage;
 
 pub use json_text::bounded_plan_json;
+pub use lines::says_third;
 pub use printing::{print_bound, print_bounded_plan};
 pub use reader::read_bounded_plan;
 use std::alloc::AllocError;

@@ -7,8 +7,8 @@ ghost use Rattle.mp_text.specs.Ahead.{row};
 ghost use Rattle.mp_text.specs.Reading.{Gives, tested};
 ghost use Rattle.file_frame.specs.Frame.{stated_on};
 ghost use Rattle.plans.specs.Plan.{most_number};
-ghost use Rattle.bounded_plan_files.specs.BoundedPlanFile.{third_header_tests, bound_tests, sort_tests, base_tests, blocker_tests, blocker_task};
-ghost use Rattle.bounded_plan_files.specs.BoundedPlanFile.{own_stated, amount_tests, amount_on, last_place};
+ghost use Rattle.bounded_plan_files.specs.BoundedPlanFile.{says_third, third_header_tests, bound_tests, sort_tests, base_tests, blocker_tests};
+ghost use Rattle.bounded_plan_files.specs.BoundedPlanFile.{blocker_task, own_stated, amount_tests, amount_on, last_place};
 ghost use Rattle.bounded_plan_files.specs.declared.sort.Sort.TheVariants as sorts;
 
 use file_frame::{after_word, count_on, number_on};
@@ -17,14 +17,24 @@ use mp_text::{Line, Refusal, fault, number, tokens};
 use peak_bounds::Amount;
 use plan_files::{MOST_NUMBER, PlanKind, bound_of as amount_of, number_up_to};
 
+/// Whether a line is `plan 3`.
+pub fn says_third(line: Line<'_>) -> bool
+    ensures { result ≡ says_third (row line.entry.number line.entry.text.now) }
+{
+    match after_word(line.text, b"plan") {
+        Some(b"3") => true,
+        _ => false,
+    }
+}
+
 /// `plan 3`.
 pub fn third_header_on(line: Line<'_>) -> Result<(), Refusal<PlanKind>>
     ensures { Gives (tested (third_header_tests (row line.entry.number line.entry.text.now)) tt) result }
 {
-    match after_word(line.text, b"plan") {
-        Some(b"3") => Ok(()),
-        _ => Err(fault(line.number, PlanKind::Header)),
+    if !says_third(line) {
+        return Err(fault(line.number, PlanKind::Header));
     }
+    Ok(())
 }
 
 /// `bound L`: the bound.

@@ -22,6 +22,8 @@ pub enum PlanKind {
     Priority,
     /// An amount line has not two words, or its place does not rise. No file of version 1 or 2 has one.
     Amount,
+    /// A plan's JSON is no JSON text, or has no member `order` that is an array. No file of lines has this.
+    Json,
 }
 
 impl Kind for PlanKind {
@@ -37,6 +39,7 @@ impl Kind for PlanKind {
             PlanKind::NoEnd => "no-end",
             PlanKind::Priority => "priority",
             PlanKind::Amount => "amount",
+            PlanKind::Json => "json",
         }
     }
 }

@@ -1,0 +1,3 @@
+pub mod OrderOf
+pub mod PlanOrder
+pub mod Reader

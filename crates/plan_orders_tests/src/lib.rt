@@ -1,0 +1,5 @@
+//! Tests of `plan_orders`, over its public functions.
+#![tactic(auto)]
+
+#[cfg(test)]
+mod tests;
