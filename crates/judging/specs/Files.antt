@@ -26,6 +26,8 @@ use Rattle.plans.specs.Plan.{PlanValue}
 use Rattle.plan_files.specs.PlanFile.{ReadsPlan, RefusesPlan}
 use Rattle.bounded_plans.specs.BoundedPlan.{BoundedPlanValue}
 use Rattle.bounded_plan_files.specs.BoundedPlanFile.{ReadsBoundedPlan, RefusesBoundedPlan}
+use Rattle.plan_orders.specs.OrderOf.{PlannedOrderValue}
+use Rattle.plan_orders.specs.PlanOrder.{ReadsPlanOrder, RefusesPlanOrder}
 use Rattle.fences.specs.Certificates.{Certificate}
 use Rattle.fence_files.specs.FenceFile.{ReadsFences, RefusesFences}
 use Rattle.fence_files.specs.Kinds.{word_of as fence_word}
@@ -43,7 +45,7 @@ use Rattle.requests.specs.Request.{Ordering, natural, min_degree, perm_named, in
 use Rattle.requests.specs.Request.{TaskSource, input_tasks, graph_tasks, shared_graph_file}
 use Rattle.requests.specs.Request.{workflow_named, OrderSource, order_named, plan_named, FileRole, tree_file, workflow_file}
 use Rattle.requests.specs.Request.{matrix_file, perm_file, inverse_file, order_file, plan_file, bounded_plan_file, priority_file, plan_priority_file}
-use Rattle.requests.specs.Request.{NamedFile, fence_file}
+use Rattle.requests.specs.Request.{NamedFile, fence_file, planned_order_file}
 use Rattle.workflow_files.specs.Kinds.{word_of as workflow_word}
 use Rattle.matrix_files.specs.OrderKinds.{perm_word, order_file_word}
 use Rattle.plan_files.specs.Kinds.{word_of as plan_word}
@@ -135,6 +137,10 @@ IsPlanFile text plan = IsWithinBytes text × ReadsPlan text plan
 abbrev pub IsBoundedPlanFile : List ℕ → BoundedPlanValue → Type 0
 IsBoundedPlanFile text plan = IsWithinBytes text × ReadsBoundedPlan text plan
 
+-- a plan of any form, as the order that it gives
+abbrev pub IsPlannedOrderFile : List ℕ → PlannedOrderValue → Type 0
+IsPlannedOrderFile text order = IsWithinBytes text × ReadsPlanOrder text order
+
 -- fences, with the amounts that are to certify their bound
 abbrev pub IsFencesFile : List ℕ → Certificate → Type 0
 IsFencesFile text certificate = IsWithinBytes text × ReadsFences text certificate
@@ -205,7 +211,7 @@ IsSystemWithTerm (workflow_named name) (text ∷ more ∷ texts) system position
 -- the order that a source gives
 abbrev pub IsOrderFrom : OrderSource → List ℕ → List ℕ → Type 0
 IsOrderFrom (order_named name) text numbers = IsOrderFile text numbers
-IsOrderFrom (plan_named name) text numbers = (plan : PlanValue) × IsPlanFile text plan × (numbers ≡ plan.order)
+IsOrderFrom (plan_named name) text numbers = (plan : PlannedOrderValue) × IsPlannedOrderFile text plan × (numbers ≡ plan.order)
 
 -- a matrix has more rows than can be eliminated in this order
 abbrev pub IsTooLarge : Ordering → List ℕ → Answer → Type 0
@@ -273,6 +279,7 @@ IsRefusedInRole perm_file earlier text answer = IsRefusedPerm earlier text answe
 IsRefusedInRole inverse_file earlier text answer = IsRefusedInverse earlier text answer
 IsRefusedInRole order_file earlier text answer = IsRefusedFile (codes "order") order_file_word (RefusesOrder text) text answer
 IsRefusedInRole plan_file earlier text answer = IsRefusedFile (codes "plan") plan_word (RefusesPlan text) text answer
+IsRefusedInRole planned_order_file earlier text answer = IsRefusedFile (codes "plan") plan_word (RefusesPlanOrder text) text answer
 IsRefusedInRole bounded_plan_file earlier text answer = IsRefusedFile (codes "plan") plan_word (RefusesBoundedPlan text) text answer
 IsRefusedInRole fence_file earlier text answer = IsRefusedFile (codes "fences") fence_word (RefusesFences text) text answer
 IsRefusedInRole (priority_file tasks) earlier text answer = IsRefusedPriority tasks earlier text answer
@@ -288,6 +295,7 @@ HasValue perm_file earlier text = IsAcceptedPerm earlier text
 HasValue inverse_file earlier text = IsAcceptedInverse earlier text
 HasValue order_file earlier text = (numbers : List ℕ) × IsOrderFile text numbers
 HasValue plan_file earlier text = (plan : PlanValue) × IsPlanFile text plan
+HasValue planned_order_file earlier text = (plan : PlannedOrderValue) × IsPlannedOrderFile text plan
 HasValue bounded_plan_file earlier text = (plan : BoundedPlanValue) × IsBoundedPlanFile text plan
 HasValue fence_file earlier text = (certificate : Certificate) × IsFencesFile text certificate
 HasValue (priority_file tasks) earlier text = IsAcceptedPriority tasks earlier text

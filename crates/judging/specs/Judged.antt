@@ -15,6 +15,7 @@ use Rattle.sp_terms.specs.Postfix.{Denotes}
 use Rattle.sp_terms.specs.Values.{term_of}
 use Rattle.judging.specs.Files.{limit_refused, Answer, IsRefusedInRole, IsRefusedAs, IsRefusedFile, IsOrderFrom, IsOrderedMatrix}
 use Rattle.judging.specs.Files.{IsPermFile, IsTreeOf, IsWorkflowFile, IsSharedGraphFile, AreAccepted}
+use Rattle.plan_orders.specs.OrderOf.{value_of}
 use Rattle.judging.specs.Priorities.{IsOwnPriority, priority_or}
 use Rattle.judging.specs.Numbered.{IsNumberedTerm}
 use Rattle.judging.specs.Told.{AreTold, HasFailed}
@@ -130,12 +131,12 @@ system_of_tasks (tasks.Graph system) = system
 -- the tasks of an order that was read
 abbrev pub order_tasks : Order → List ℕ
 order_tasks (orders.Listed numbers) = numbers.items
-order_tasks (orders.Planned plan) = plan.order
+order_tasks (orders.Planned plan) = (value_of plan).order
 
 -- the priority that comes with an order that was read
 abbrev pub own_priority : Order → List ℕ
 own_priority (orders.Listed numbers) = numbers.items
-own_priority (orders.Planned plan) = priority_or plan.order plan.priority
+own_priority (orders.Planned plan) = priority_or (value_of plan).order (value_of plan).priority
 
 -- the order that a source gives, and the priority that comes with it
 abbrev pub IsOrderRead : OrderSource → List (List ℕ) → Order → Type 0

@@ -10,6 +10,8 @@ ghost use Rattle.matrix_files.specs.PermFile.{ReadsPerm, RefusesPerm};
 ghost use Rattle.matrix_files.specs.InverseFile.{ReadsInverse, RefusesInverse};
 ghost use Rattle.plan_files.specs.PlanFile.{ReadsPlan, RefusesPlan};
 ghost use Rattle.bounded_plan_files.specs.BoundedPlanFile.{ReadsBoundedPlan, RefusesBoundedPlan};
+ghost use Rattle.plan_orders.specs.OrderOf.{value_of};
+ghost use Rattle.plan_orders.specs.PlanOrder.{ReadsPlanOrder, RefusesPlanOrder};
 ghost use Rattle.fence_files.specs.FenceFile.{ReadsFences, RefusesFences};
 ghost use Rattle.workflow_files.specs.WorkflowFile.{ReadsWorkflow, RefusesWorkflow};
 ghost use Rattle.shared_graph_files.specs.EitherVersion.{StatesEither, ReadsSharedGraph, RefusesSharedGraph};
@@ -33,6 +35,7 @@ use mp_text::{Kind, Refusal};
 use patterns::Pattern;
 use permutations::Perm;
 use plan_files::{PlanKind, read_plan};
+use plan_orders::{PlannedOrder, read_plan_order};
 use plans::Plan;
 use shared_graph_files::{EitherGraph, read_either_graph, read_shared_graph};
 use shared_systems::SharedSystem;
@@ -349,6 +352,30 @@ impl FileKind for PlanFile {
 
     fn read(&self, alloc: Global, text: Vec<u8>) -> Result<Plan, Refusal<PlanKind>> {
         read_plan(alloc, &text)
+    }
+}
+
+/// A plan of any form, of which the order is taken.
+#[derive(Clone, Copy, Debug)]
+pub struct PlannedOrderFile;
+
+impl FileKind for PlannedOrderFile {
+    type Value = PlannedOrder;
+
+    type Kind = PlanKind;
+
+    ghost file_word = { λ _. codes "plan" };
+
+    ghost reads = { λ _ text plan. ReadsPlanOrder text (value_of plan) };
+
+    ghost refuses = { λ _. RefusesPlanOrder };
+
+    fn word(&self) -> &'static str {
+        "plan"
+    }
+
+    fn read(&self, alloc: Global, text: Vec<u8>) -> Result<PlannedOrder, Refusal<PlanKind>> {
+        read_plan_order(alloc, &text)
     }
 }
 

@@ -7,7 +7,8 @@ ghost use Rattle.activation.specs.Refusal.{IsCoreRefusal};
 ghost use Rattle.activation.specs.Schedule.{HoldsEach};
 ghost use Rattle.limits.specs.Limits.{most_workers};
 ghost use Rattle.shared_systems.specs.Shared.{SharedTaskSystem};
-ghost use Rattle.plans.specs.Plan.{IsPlan};
+ghost use Rattle.plans.specs.Plan.{IsPriority};
+ghost use Rattle.plan_orders.specs.OrderOf.{value_of};
 ghost use Rattle.judging.specs.Files.{IsOrderOf, IsMatrixTree, IsTreeOf, IsFirstRefusal};
 ghost use Rattle.judging.specs.Priorities.{priority_or};
 ghost use Rattle.judging.specs.Judged.{AreJudged, IsRefusingPage, IsRefusedOrder, IsMatrixRead, IsProblemOf, IsOrderRead};
@@ -20,8 +21,8 @@ ghost use Rattle.requests.specs.Request.{input_files, task_files, source_file, p
 ghost use Rattle.requests.specs.RequestViews.{ordering_view, matrix_view, ordered_matrix_view, tree_input_view, input_view, tasks_view, source_view};
 
 use crate::files::{
-    InverseFile, MatrixFile, OrderFile, PermFile, PlanFile, Ranked, SharedGraphFile, TreeFile,
-    WorkflowFile, judge,
+    InverseFile, MatrixFile, OrderFile, PermFile, PlannedOrderFile, Ranked, SharedGraphFile,
+    TreeFile, WorkflowFile, judge,
 };
 use crate::page::limit_page;
 use crate::stop::Stop;
@@ -34,7 +35,7 @@ use mp_system::ReplayRefusal;
 use ordering::{MindegRefusal, min_degree};
 use patterns::Pattern;
 use permutations::{Perm, identity};
-use plans::Plan;
+use plan_orders::PlannedOrder;
 use requests::{Input, Matrix, OrderSource, OrderedMatrix, Ordering, TaskSource, TreeInput};
 use shared_systems::SharedSystem;
 use shared_systems::laws::{one_reader_law, order_law};
@@ -261,7 +262,7 @@ pub fn judge_tasks<F: Files>(
 #[derive(Drop)]
 pub enum Order {
     Listed(Vec<u32>),
-    Planned(Plan),
+    Planned(PlannedOrder),
 }
 
 impl Order {
@@ -290,15 +291,15 @@ impl Order {
 }
 
 // The priority of a plan that has one, else its order.
-fn priority_of(plan: &Plan) -> &[u32]
-    ensures value { result.now ≡ priority_or plan.now.order plan.now.priority }
-    ensures plan { IsPlan plan.now }
+fn priority_of(plan: &PlannedOrder) -> &[u32]
+    ensures value { result.now ≡ priority_or (value_of plan.now).order (value_of plan.now).priority }
+    ensures each { IsPriority (length (value_of plan.now).order) (value_of plan.now).priority }
 {
-    let order = plan.order();
-    if plan.priority().is_empty() {
-        order
+    let priority = plan.priority();
+    if priority.is_empty() {
+        plan.order()
     } else {
-        plan.priority()
+        priority
     }
 }
 
@@ -320,7 +321,7 @@ pub fn judge_order<F: Files>(
             Ok(Order::Listed(numbers))
         }
         OrderSource::Plan(name) => {
-            let plan = judge(alloc, files, name, &PlanFile)?;
+            let plan = judge(alloc, files, name, &PlannedOrderFile)?;
             Ok(Order::Planned(plan))
         }
     }

@@ -12,7 +12,7 @@ mod stop;
 
 pub use files::{
     BoundedPlanFile, EitherGraphFile, FencesFile, FileKind, InverseFile, MatrixFile, OrderFile,
-    PermFile, PlanFile, Ranked, SharedGraphFile, TreeFile, WorkflowFile, judge,
+    PermFile, PlanFile, PlannedOrderFile, Ranked, SharedGraphFile, TreeFile, WorkflowFile, judge,
 };
 pub use inputs::{
     Order, OrderedPattern, OrderedTasks, PatternWithOrder, Priority, Tasks, judge_input,

@@ -28,7 +28,7 @@ use Rattle.judging.specs.Files.{Answer, IsEitherGraphFile, IsSharedGraphFile, Is
 use Rattle.judging.specs.Judged.{IsStop, IsRefusedSource}
 use Rattle.judging.proofs.InputLemmas.{source_accepted, source_refused}
 use Rattle.judging.proofs.StepLemmas.{alone_told, stop_after}
-use Rattle.reports.specs.Carry.{IsCarriedAnswer, IsArcsCarryAnswer, IsItemsCarryAnswer, IsEitherCarryAnswer, IsCarryOf, IsCarried}
+use Rattle.reports.specs.Carry.{IsCarriedAnswer, IsArcsCarryAnswer, IsItemsCarryAnswer, IsEitherCarryAnswer, IsCarryOf, IsOrderCarried}
 use Rattle.reports.specs.Post.{post_answer}
 use Rattle.reports.proofs.GraphLemmas.{graph_at}
 
@@ -135,7 +135,7 @@ module _ (laws : AreCarryLaws) where
   module _ (source : OrderSource) (texts : List (List ℕ)) (answer : Answer) (done : answer.status ≡ Done) (text one : List ℕ)
       (e : texts ≡ text ∷ one ∷ []) (numbers : List ℕ) (is_order : IsOrderFrom source one numbers) where
     carried : (system : SharedTaskSystem) (t : Term) (tell : List ℕ → List ℕ) → IsSharedGraphFile text system → Tells system t tell
-        → IsCarriedAnswer t tell system numbers answer → IsCarried source texts answer.text
+        → IsCarriedAnswer t tell system numbers answer → IsOrderCarried source texts answer.text
     carried system t tell is tells (inl (given, a)) = record {
       text = text;
       one = one;
@@ -155,25 +155,25 @@ module _ (laws : AreCarryLaws) where
     carried system t tell is tells (inr (place, kind, fault, a)) = absurd (cc (sym (ap (λ (x : Answer). x.status) a) ∙ done))
 
     arcs_carried : (graph : TaskGraph) → IsSharedGraphFile text (shared_of (own_system graph)) → IsArcsCarryAnswer graph numbers answer
-        → IsCarried source texts answer.text
+        → IsOrderCarried source texts answer.text
     arcs_carried graph is (inl (positions, names, terms, has, a)) =
         carried (shared_of (own_system graph)) (term_of positions) (map (name_in names)) is
         (own_tells graph names (term_of positions) has) a
     arcs_carried graph is (inr (arcs, none, rest, a)) = absurd (cc (sym (ap (λ (x : Answer). x.status) a) ∙ done))
 
     items_carried : (system : SharedTaskSystem) → IsSharedGraphFile text system → IsItemsCarryAnswer system numbers answer
-        → IsCarried source texts answer.text
+        → IsOrderCarried source texts answer.text
     items_carried system is (inl (positions, names, terms, term, a)) =
         carried system (term_of positions) (told (length system.tasks) names) is
         (items_tell system names (term_of positions) (laws.read text system is.1) term) a
     items_carried system is (inr (refusal, refused, a)) = absurd (cc (sym a.0 ∙ done))
 
     either_carried : (stated : EitherGraph) → IsEitherGraphFile text stated → IsEitherCarryAnswer stated numbers answer
-        → IsCarried source texts answer.text
+        → IsOrderCarried source texts answer.text
     either_carried (Arcs graph) is x = arcs_carried graph (graph_value text (Arcs graph) is) x
     either_carried (Items system) is x = items_carried system (graph_value text (Items system) is) x
 
   pub carry_says : (source : OrderSource) (texts : List (List ℕ)) (answer : Answer) → IsCarryOf source texts answer
-      → answer.status ≡ Done → IsCarried source texts answer.text
+      → answer.status ≡ Done → IsOrderCarried source texts answer.text
   carry_says source texts answer (text, one, stated, numbers, e, is, is_order, x) done =
       either_carried source texts answer done text one e numbers is_order stated is x

@@ -1,21 +1,18 @@
 -- What `columns` prints: the columns of the fronts, one front after another.
 use Rattle.std.proofs.Common.{◌≡◌, ◌≢◌, ◌∙◌, ◌↔◌, ◌+◌, ◌≤◌, ℕ, suc, Bool, List, [], ◌∷◌, ◌++◌, Option, Some, None, length, take, drop, get_or}
-use Rattle.std.proofs.Common.{refl, sym, ap, ap₂, subst, inl, inr, arith, append_assoc}
+use Rattle.std.proofs.Common.{refl, sym, ap, ap₂, subst, inl, inr, arith}
 use Rattle.std.proofs.Math.Seq.{take-append_seam, drop-append_seam}
-use Rattle.std.proofs.lemmas.List.{append-nil, length-map}
+use Rattle.std.proofs.lemmas.List.{length-map}
 use Rattle.limits.specs.Limits.{most_order, most_bytes}
 use Rattle.mp_system.specs.declared.system.OrderKind.{OrderKind}
 use Rattle.mp_system.specs.System.{TaskSystem}
 use Rattle.mp_system.specs.Traversal.{IsTraversal, first_fault}
 use Rattle.mp_text.specs.Report.{line_text, text_of_lines}
-use Rattle.matrix_files.specs.OrderFile.{ReadsOrder}
 use Rattle.matrix_files.specs.PermFile.{ReadsPerm}
 use Rattle.matrix_files.specs.InverseFile.{ReadsInverse}
 use Rattle.permutations.specs.Perm.{IsPerm, IsVertex, vertex_at}
 use Rattle.permutations.proofs.IdentityLemmas.{perm_identity}
 use Rattle.patterns.specs.Pattern.{IsPattern, is_joined}
-use Rattle.plans.specs.Plan.{PlanValue}
-use Rattle.plan_files.specs.PlanFile.{ReadsPlan}
 use Rattle.trees.specs.Tree.{system_of_nodes}
 use Rattle.ordering.specs.Fill.{IsAdjacency}
 use Rattle.elim_tree.specs.Paths.{IsWithin}
@@ -29,13 +26,14 @@ use Rattle.symbolic.specs.declared.options.FrontOptions.{FrontOptions}
 use Rattle.equivalent_orders.specs.Orders.{IsTopological, is_in_column}
 use Rattle.equivalent_orders.specs.Fronts.{IsFrontOrder, front_of_vertex, vertices_along}
 use Rattle.equivalent_orders.specs.FrontPostorders.{IsFrontPostorder, fronts_along}
-use Rattle.requests.specs.Request.{Ordering, natural, min_degree, perm_named, inverse_named, Matrix, NamedFile, OrderSource, order_named, plan_named}
+use Rattle.requests.specs.Request.{Ordering, natural, min_degree, perm_named, inverse_named, Matrix, OrderSource}
 use Rattle.requests.specs.Request.{ordering_files, matrix_files, source_files, files_of, columns, ColumnsFormat}
-use Rattle.judging.specs.Files.{Answer, AreAccepted, IsOrderOf, IsOrderedMatrix, IsOrderFrom, order_refused}
+use Rattle.judging.specs.Files.{Answer, AreAccepted, IsOrderOf, IsOrderedMatrix}
 use Rattle.judging.proofs.InputLemmas.{ordered_accepted, source_accepted}
 use Rattle.reports.specs.Columns.{perm_lines, columns_text, IsFrontsAsked, IsColumnsAnswer, IsColumnsOf, AreColumns}
 use Rattle.reports.specs.Promises.{done_answer}
 use Rattle.reports.proofs.FrontLemmas.{FrontParts, one_analysis}
+use Rattle.reports.proofs.OneOrder.{OrderFiles, one_order, same_fault, both_accepted}
 
 -- ---- the files
 
@@ -57,18 +55,6 @@ matrix_long : (m : Matrix) (texts rows : List (List ℕ)) (order : List ℕ) →
     → length texts ≡ length (matrix_files m)
 matrix_long m [] rows order is = absurd is
 matrix_long m (text ∷ texts) rows order is = ap suc (order_long m.ordering rows texts order is.1)
-
--- files that have values, and more that have, after their texts
-both_accepted : (xs ys : List NamedFile) (earlier one two : List (List ℕ)) → length one ≡ length xs → AreAccepted xs earlier one
-    → AreAccepted ys (earlier ++ one) two → AreAccepted (xs ++ ys) earlier (one ++ two)
-both_accepted [] ys earlier [] two len accepted more = subst (λ (e : List (List ℕ)). AreAccepted ys e two) (append-nil earlier) more
-both_accepted [] ys earlier (t ∷ one) two len accepted more = absurd (omega (arith, len))
-both_accepted (x ∷ xs) ys earlier [] two len accepted more = absurd accepted
-both_accepted (x ∷ xs) ys earlier (t ∷ one) two len accepted more = (
-  accepted.0,
-  both_accepted xs ys (earlier ++ t ∷ []) one two (omega (arith, len)) accepted.1
-      (subst (λ (e : List (List ℕ)). AreAccepted ys e two) (sym (append_assoc earlier (t ∷ []) one)) more),
-)
 
 rest_accepted : (source : Option OrderSource) (count : ℕ) (earlier rest : List (List ℕ)) (fronts : List ℕ)
     → IsFrontsAsked source count rest fronts → AreAccepted (source_files source) earlier rest
@@ -102,8 +88,7 @@ FrontOrders =
 -- what is known of the parts of an answer
 pub record ColumnParts : Type 0 where
   pub fronts : FrontParts
-  pub orders : (bytes one two : List ℕ) → ReadsOrder bytes one → ReadsOrder bytes two → one ≡ two
-  pub plans : (bytes : List ℕ) (one two : PlanValue) → ReadsPlan bytes one → ReadsPlan bytes two → one ≡ two
+  pub files : OrderFiles
   pub trees : (rows : List (List ℕ)) (order perm : List ℕ) (assembly : AssemblyTree) → IsPattern rows → length order ≡ length rows
       → IsAnalysis rows order perm assembly → IsAssembly assembly
   pub merged : (zeros : ℕ) (assembly : AssemblyTree) → IsAssembly assembly → IsAssembly (amalgamated zeros assembly)
@@ -122,17 +107,12 @@ same_parts {A} one two xs ys len e = (
 )
 
 module _ (p : ColumnParts) where
-  one_source : (source : OrderSource) (text one two : List ℕ) → IsOrderFrom source text one → IsOrderFrom source text two → one ≡ two
-  one_source (order_named name) text one two is other = p.orders text one two is.1 other.1
-  one_source (plan_named name) text one two (plan, is, e) (plan', is', e') =
-      e ∙ ap (λ (x : PlanValue). x.order) (p.plans text plan plan' is.1 is'.1) ∙ sym e'
-
   one_order_asked : (source : Option OrderSource) (count : ℕ) (rest : List (List ℕ)) (one two : List ℕ)
       → IsFrontsAsked source count rest one → IsFrontsAsked source count rest two → one ≡ two
   one_order_asked None count [] one two is other = is ∙ sym other
   one_order_asked None count (text ∷ texts) one two is other = absurd is
   one_order_asked (Some source) count [] one two is other = absurd is
-  one_order_asked (Some source) count (text ∷ []) one two is other = one_source source text one two is other
+  one_order_asked (Some source) count (text ∷ []) one two is other = one_order p.files source text one two is other
   one_order_asked (Some source) count (text ∷ more ∷ texts) one two is other = absurd is
 
   module _ (options : FrontOptions) (format : ColumnsFormat) (perm : List ℕ) (assembly : AssemblyTree) (is : IsAssembly assembly)
@@ -145,20 +125,12 @@ module _ (p : ColumnParts) where
         let traversal = (p.front_orders options.shape options.inplace assembly fronts is).1 before in
         let none = (p.fault system fronts).1 traversal in cc
 
-    same_fault : (one two : Answer) (place place' : ℕ) (kind kind' : OrderKind) → first_fault system fronts ≡ Some (place, kind)
-        → first_fault system fronts ≡ Some (place', kind') → one ≡ order_refused place kind → two ≡ order_refused place' kind' → one ≡ two
-    same_fault one two place place' kind kind' fault fault' e e' =
-        let same : Some (place, kind) ≡ Some (place', kind') = sym fault ∙ fault' in
-        let places : (place, kind) ≡ (place', kind') = cc in
-        e ∙ ap (λ (x : ℕ × OrderKind). order_refused x.0 x.1) places ∙ sym e'
-
     told_once : (one two : Answer) → IsColumnsAnswer options format perm assembly fronts one
         → IsColumnsAnswer options format perm assembly fronts two → one ≡ two
     told_once one two (inl (before, e)) (inl (before', e')) = e ∙ sym e'
     told_once one two (inl (before, e)) (inr (place, kind, fault, e')) = absurd (no_fault before place kind fault)
     told_once one two (inr (place, kind, fault, e)) (inl (before, e')) = absurd (no_fault before place kind fault)
-    told_once one two (inr (place, kind, fault, e)) (inr (place', kind', fault', e')) =
-        same_fault one two place place' kind kind' fault fault' e e'
+    told_once one two (inr is) (inr is') = same_fault (first_fault system fronts) one two is is'
 
   pub columns_once : (m : Matrix) (source : Option OrderSource) (format : ColumnsFormat) (texts : List (List ℕ)) (one two : Answer)
       → IsColumnsOf m source format texts one → IsColumnsOf m source format texts two → one ≡ two

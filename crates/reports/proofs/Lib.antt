@@ -6,6 +6,7 @@ pub mod FenceLemmas
 pub mod PlannedFenceLemmas
 pub mod FrontLemmas
 pub mod OneFile
+pub mod OneOrder
 pub mod OneInput
 pub mod OneReport
 pub mod ReductionLemmas

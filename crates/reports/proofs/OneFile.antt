@@ -14,6 +14,7 @@ use Rattle.plan_files.specs.Kinds.{word_of as plan_word}
 use Rattle.plans.specs.Plan.{PlanValue}
 use Rattle.plan_files.specs.PlanFile.{ReadsPlan, RefusesPlan}
 use Rattle.bounded_plan_files.specs.BoundedPlanFile.{ReadsBoundedPlan, RefusesBoundedPlan}
+use Rattle.plan_orders.specs.PlanOrder.{ReadsPlanOrder, RefusesPlanOrder}
 use Rattle.fence_files.specs.FenceFile.{ReadsFences, RefusesFences}
 use Rattle.fence_files.specs.Kinds.{word_of as fence_word}
 use Rattle.workflow_files.specs.Kinds.{word_of as workflow_word}
@@ -25,7 +26,7 @@ use Rattle.tree_files.specs.TreeFile.{ReadsTree, RefusesTree}
 use Rattle.judging.specs.Files.{Answer, IsMatrixFile, HasOrdering, IsTooLarge, IsWithinBytes, IsRefusedAs}
 use Rattle.judging.specs.Files.{IsRefusedFile, HasValue, IsRefusedInRole, IsTaskSystemOf, IsPlanFile}
 use Rattle.requests.specs.Request.{Ordering, natural, min_degree, perm_named, inverse_named, TaskSource, FileRole, tree_file, workflow_file}
-use Rattle.requests.specs.Request.{shared_graph_file}
+use Rattle.requests.specs.Request.{shared_graph_file, planned_order_file}
 use Rattle.requests.specs.Request.{matrix_file, perm_file, inverse_file, order_file, plan_file, bounded_plan_file, fence_file, priority_file, plan_priority_file}
 use Rattle.reports.proofs.OneInput.{TaskSystems, same_task_texts}
 
@@ -67,6 +68,7 @@ pub record Formats : Type 0 where
   pub orders : IsFormat ReadsOrder RefusesOrder
   pub plans : IsFormat ReadsPlan RefusesPlan
   pub bounded_plans : IsFormat ReadsBoundedPlan RefusesBoundedPlan
+  pub planned_orders : IsFormat ReadsPlanOrder RefusesPlanOrder
   pub fences : IsFormat ReadsFences RefusesFences
   pub patterns : (bytes : List ℕ) (one two : List (List ℕ)) → ReadsPattern bytes one → ReadsPattern bytes two → one ≡ two
   pub one_plan : (bytes : List ℕ) (one two : PlanValue) → ReadsPlan bytes one → ReadsPlan bytes two → one ≡ two
@@ -139,6 +141,8 @@ module _ (f : Formats) where
       not_refused (codes "order") order_file_word ReadsOrder RefusesOrder f.orders text answer numbers is refused
   not_both plan_file earlier text answer (plan, is) refused =
       not_refused (codes "plan") plan_word ReadsPlan RefusesPlan f.plans text answer plan is refused
+  not_both planned_order_file earlier text answer (plan, is) refused =
+      not_refused (codes "plan") plan_word ReadsPlanOrder RefusesPlanOrder f.planned_orders text answer plan is refused
   not_both bounded_plan_file earlier text answer (plan, is) refused =
       not_refused (codes "plan") plan_word ReadsBoundedPlan RefusesBoundedPlan f.bounded_plans text answer plan is refused
   not_both fence_file earlier text answer (certificate, is) refused =
@@ -181,6 +185,8 @@ module _ (f : Formats) where
       refused_once (codes "order") order_file_word ReadsOrder RefusesOrder f.orders text one two is other
   one_refusal plan_file earlier text one two is other =
       refused_once (codes "plan") plan_word ReadsPlan RefusesPlan f.plans text one two is other
+  one_refusal planned_order_file earlier text one two is other =
+      refused_once (codes "plan") plan_word ReadsPlanOrder RefusesPlanOrder f.planned_orders text one two is other
   one_refusal bounded_plan_file earlier text one two is other =
       refused_once (codes "plan") plan_word ReadsBoundedPlan RefusesBoundedPlan f.bounded_plans text one two is other
   one_refusal fence_file earlier text one two is other =

@@ -1,7 +1,6 @@
 -- A request but `plan` has one report, and a request with a report has no refusal.
 use Rattle.std.proofs.Common.{◌≡◌, ◌∙◌, ◌↔◌, ◌≤◌, ℕ, List, [], ◌∷◌, ◌++◌, Option, Some, None}
-use Rattle.std.proofs.Common.{length, refl, sym, ap, subst, inl, inr, arith, append_assoc}
-use Rattle.std.proofs.lemmas.List.{append-nil}
+use Rattle.std.proofs.Common.{length, refl, sym, ap, subst, inl, inr, arith}
 use Rattle.activation.specs.declared.events.Event.{Event}
 use Rattle.activation.specs.Machine.{Setting, IsSetting}
 use Rattle.activation.specs.Schedule.{HoldsEach, IsSchedule, first_moment}
@@ -10,12 +9,12 @@ use Rattle.claim_check.specs.declared.verdict.Verdict.{Verdict}
 use Rattle.mp_system.specs.declared.system.OrderKind.{OrderKind}
 use Rattle.mp_system.specs.Memory.{peak_of}
 use Rattle.mp_system.specs.System.{TaskSystem}
-use Rattle.mp_system.specs.Traversal.{IsTraversal, first_fault}
-use Rattle.matrix_files.specs.OrderFile.{ReadsOrder}
 use Rattle.permutations.specs.Perm.{IsPerm}
 use Rattle.matrix_files.specs.PermFile.{ReadsPerm}
-use Rattle.plans.specs.Plan.{PlanValue, IsPlan, IsPriority}
+use Rattle.plans.specs.Plan.{PlanValue, IsPriority}
 use Rattle.plan_files.specs.PlanFile.{ReadsPlan}
+use Rattle.plan_orders.specs.OrderOf.{PlannedOrderValue}
+use Rattle.plan_orders.specs.PlanOrder.{ReadsPlanOrder}
 use Rattle.postorder_best.specs.BestPostorder.{IsBestPostorder}
 use Rattle.sp_terms.specs.declared.position.Position.{Position}
 use Rattle.shared_systems.specs.Shared.{SharedTaskSystem}
@@ -28,7 +27,7 @@ use Rattle.trees.specs.Tree.{IsTree, system_of_nodes}
 use Rattle.reports.specs.Reports.{IsReport, IsDecided}
 use Rattle.reports.specs.Check.{IsCheckOf, verdict_answer}
 use Rattle.judging.specs.Files.{Answer, AreAccepted, HasValue, IsRefusedInRole, IsFirstRefusal, IsOrderFrom}
-use Rattle.judging.specs.Files.{IsTreeOf, IsSystemOf, IsTaskSystemOf, IsSystemWithTerm, order_refused}
+use Rattle.judging.specs.Files.{IsTreeOf, IsSystemOf, IsTaskSystemOf, IsSystemWithTerm}
 use Rattle.reports.specs.Columns.{IsColumnsOf}
 use Rattle.reports.specs.Demo.{IsDemoOf}
 use Rattle.reports.specs.Fronts.{IsFrontsOf}
@@ -39,7 +38,7 @@ use Rattle.requests.specs.Request.{check_fences, check_graph, plan_graph, boundi
 use Rattle.requests.specs.Request.{columns, carrying, ColumnsFormat, Matrix}
 use Rattle.requests.specs.Request.{IsMakeable, TreeInput, matrix_named, Input, OrderSource}
 use Rattle.requests.specs.Request.{TaskSource, input_tasks, graph_tasks, task_files}
-use Rattle.requests.specs.Request.{order_named, plan_named, Simulation, FileRole, NamedFile, tree_input_files, input_files}
+use Rattle.requests.specs.Request.{order_named, plan_named, Simulation, FileRole, NamedFile, plan_file, tree_input_files, input_files}
 use Rattle.requests.specs.Request.{fence_file, source_file, priority_file, priority_files, files_of, fronts, OrderedMatrix}
 use Rattle.reports.specs.Simulate.{IsPriorityFrom, IsSimulation, IsSimulationOf, setting_of, simulation_answer}
 use Rattle.judging.specs.Priorities.{IsOwnPriority, priority_or}
@@ -53,6 +52,7 @@ use Rattle.judging.proofs.InputLemmas.{system_accepted}
 use Rattle.reports.proofs.BoundLemmas.{given_accepted}
 use Rattle.reports.proofs.CarryLemmas.{carry_accepted}
 use Rattle.reports.proofs.ColumnLemmas.{columns_accepted}
+use Rattle.reports.proofs.OneOrder.{OrderFiles, one_order, same_fault, both_accepted}
 use Rattle.reports.proofs.OneInput.{IsRunnable, Systems, TaskSystems, same_texts, same_task_texts}
 use Rattle.reports.proofs.UpgradeLemmas.{upgrade_accepted, one_upgrade_answer}
 use Rattle.reports.proofs.StairsLemmas.{one_segments, numbered_accepted}
@@ -66,12 +66,11 @@ pub record Reports : Type 0 where
   pub task_systems : TaskSystems
   pub terms : (input : Input) (texts : List (List ℕ)) (s t : TaskSystem) (ps qs : List Position)
       → IsSystemWithTerm input texts s ps → IsSystemWithTerm input texts t qs → ps ≡ qs
-  pub orders : (bytes a b : List ℕ) → ReadsOrder bytes a → ReadsOrder bytes b → a ≡ b
+  pub files : OrderFiles
+  pub ranked : (bytes : List ℕ) (a : PlannedOrderValue) → ReadsPlanOrder bytes a → IsPriority (length a.order) a.priority
   pub perms : (n : ℕ) (bytes a b : List ℕ) → ReadsPerm n bytes a → ReadsPerm n bytes b → a ≡ b
   pub perm : (n : ℕ) (bytes a : List ℕ) → ReadsPerm n bytes a → IsPerm n a
   pub plans : (bytes : List ℕ) (a b : PlanValue) → ReadsPlan bytes a → ReadsPlan bytes b → a ≡ b
-  pub plan : (bytes : List ℕ) (a : PlanValue) → ReadsPlan bytes a → IsPlan a
-  pub fault : (system : TaskSystem) (order : List ℕ) → (first_fault system order ≡ None) ↔ IsTraversal system order
   pub shared_fault : (system : SharedTaskSystem) (order : List ℕ) → (first_shared_fault system order ≡ None) ↔ IsSharedTraversal system order
   pub long : (system : SharedTaskSystem) (order : List ℕ) → IsSharedTraversal system order → length order ≡ length system.tasks
   pub best : (nodes : List Node) (a b : List ℕ) → IsTree nodes → IsBestPostorder nodes a → IsBestPostorder nodes b → a ≡ b
@@ -92,23 +91,6 @@ pub record Reports : Type 0 where
 
 module _ (r : Reports) where
   -- ---- the parts
-
-  one_order : (source : OrderSource) (text a b : List ℕ) → IsOrderFrom source text a → IsOrderFrom source text b → a ≡ b
-  one_order (order_named name) text a b is is' = r.orders text a b is.1 is'.1
-  one_order (plan_named name) text a b (plan, is, e) (plan', is', e') =
-      e ∙ ap (λ (p : PlanValue). p.order) (r.plans text plan plan' is.1 is'.1) ∙ sym e'
-
-  no_fault : (system : TaskSystem) (order : List ℕ) (place : ℕ) (kind : OrderKind)
-      → IsTraversal system order → first_fault system order ≡ Some (place, kind) → ⊥
-  no_fault system order place kind traversal fault = let none = (r.fault system order).1 traversal in cc
-
-  same_fault : (first : Option (ℕ × OrderKind)) (a b : Answer)
-      → (place : ℕ) × (kind : OrderKind) × (first ≡ Some (place, kind)) × (a ≡ order_refused place kind)
-      → (place : ℕ) × (kind : OrderKind) × (first ≡ Some (place, kind)) × (b ≡ order_refused place kind) → a ≡ b
-  same_fault first a b (place, kind, fault, e) (place', kind', fault', e') =
-      let same : Some (place, kind) ≡ Some (place', kind') = sym fault ∙ fault' in
-      let places : (place, kind) ≡ (place', kind') = cc in
-      e ∙ ap (λ (x : ℕ × OrderKind). order_refused x.0 x.1) places ∙ sym e'
 
   no_shared_fault : (system : SharedTaskSystem) (order : List ℕ) (place : ℕ) (kind : OrderKind)
       → IsSharedTraversal system order → first_shared_fault system order ≡ Some (place, kind) → ⊥
@@ -150,10 +132,10 @@ module _ (r : Reports) where
   own_priority (order_named name) system text order a b is_order is is' =
       (is ∙ sym is', λ traversal. subst (HoldsEach system) (sym is) (of_traversal system order traversal))
   own_priority (plan_named name) system text order a b (plan, is_plan, same) (own, is, e) (other, is', e') = (
-    e ∙ ap (λ (p : PlanValue). priority_or order p.priority) (r.plans text own other is.1 is'.1) ∙ sym e',
+    e ∙ ap (λ (p : PlannedOrderValue). priority_or order p.priority) (r.files.plans text own other is.1 is'.1) ∙ sym e',
     λ traversal.
-        let orders : own.order ≡ order = ap (λ (p : PlanValue). p.order) (r.plans text own plan is.1 is_plan.1) ∙ sym same in
-        let ranks = subst (λ (o : List ℕ). IsPriority (length o) own.priority) orders (r.plan text own is.1).priority in
+        let orders : own.order ≡ order = ap (λ (p : PlannedOrderValue). p.order) (r.files.plans text own plan is.1 is_plan.1) ∙ sym same in
+        let ranks = subst (λ (o : List ℕ). IsPriority (length o) own.priority) orders (r.ranked text own is.1) in
         subst (HoldsEach system) (sym e) (of_own system order own.priority traversal (r.long system order traversal) ranks),
   )
 
@@ -179,7 +161,7 @@ module _ (r : Reports) where
       (mine', text', t, order', split', is_system', is_order', is') =
       let same = same_task_texts r.task_systems tasks mine mine' text text' [] [] s t (sym split ∙ split') is_system is_system' in
       let orders =
-      one_order source text order order' is_order (subst (λ (x : List ℕ). IsOrderFrom source x order') (sym same.1) is_order') in
+      one_order r.files source text order order' is_order (subst (λ (x : List ℕ). IsOrderFrom source x order') (sym same.1) is_order') in
       one_replay s order a b is (coe 1 0 (i. IsReplayAnswer (same.3 i) (orders i) b) is')
 
   checked_once : (input : Input) (texts : List (List ℕ)) (a b : Answer) → IsCheckOf input texts a → IsCheckOf input texts b → a ≡ b
@@ -204,7 +186,7 @@ module _ (r : Reports) where
       let same = same_task_texts r.task_systems tasks mine mine' text text' rest rest' system system' (sym split ∙ split')
       is_system is_system' in
       let orders =
-      one_order source text order order' is_order (subst (λ (x : List ℕ). IsOrderFrom source x order') (sym same.1) is_order') in
+      one_order r.files source text order order' is_order (subst (λ (x : List ℕ). IsOrderFrom source x order') (sym same.1) is_order') in
       let moved = coe 1 0
       (i. IsPriorityFrom source s.priority (length (same.3 i).tasks) (same.1 i) (same.2 i) (orders i) priority') is_priority' in
       let one = one_priority source s.priority system text rest order priority priority' is_order is_priority moved in
@@ -239,18 +221,6 @@ module _ (r : Reports) where
   one_report (bounding graph order effort) texts a b within decided is is' = absurd decided
 
   -- ---- files that have values
-
-  both_accepted : (xs ys : List NamedFile) (earlier one two : List (List ℕ))
-      → length one ≡ length xs → AreAccepted xs earlier one → AreAccepted ys (earlier ++ one) two
-      → AreAccepted (xs ++ ys) earlier (one ++ two)
-  both_accepted [] ys earlier [] two len accepted more = subst (λ (e : List (List ℕ)). AreAccepted ys e two) (append-nil earlier) more
-  both_accepted [] ys earlier (t ∷ one) two len accepted more = absurd (omega (arith, len))
-  both_accepted (x ∷ xs) ys earlier [] two len accepted more = absurd accepted
-  both_accepted (x ∷ xs) ys earlier (t ∷ one) two len accepted more = (
-    accepted.0,
-    both_accepted xs ys (earlier ++ t ∷ []) one two (omega (arith, len)) accepted.1
-        (subst (λ (e : List (List ℕ)). AreAccepted ys e two) (sym (append_assoc earlier (t ∷ []) one)) more),
-  )
 
   with_files : (xs ys : List NamedFile) (texts mine two : List (List ℕ)) → texts ≡ mine ++ two → length mine ≡ length xs
       → AreAccepted xs [] mine → AreAccepted ys mine two → AreAccepted (xs ++ ys) [] texts
@@ -290,7 +260,7 @@ module _ (r : Reports) where
   report_accepted (columns m source format) texts a is = columns_accepted m source format texts a is
   report_accepted (post input) texts a (nodes, is, best) = tree_accepted input texts nodes is
   report_accepted (check input name workers) texts a (mine, text, s, ps, plan, split, with_term, is_plan, is) =
-      with_input input (source_file (plan_named name) ∷ []) texts mine (text ∷ []) s split
+      with_input input (record { role = plan_file; name = name } ∷ []) texts mine (text ∷ []) s split
       (work_has_system input mine s ps with_term) ((plan, is_plan), tt)
   report_accepted (check_graph graph name workers) texts a (text, file, system, plan, e, is, is_plan, x) =
       subst (AreAccepted (files_of (check_graph graph name workers)) []) (sym e) ((system, is), ((plan, is_plan), tt))

@@ -16,6 +16,7 @@ use Rattle.matrix_files.specs.Kinds.{word_of as matrix_word}
 use Rattle.matrix_files.specs.MatrixFile.{RefusesPattern}
 use Rattle.plan_files.specs.PlanFile.{RefusesPlan}
 use Rattle.bounded_plan_files.specs.BoundedPlanFile.{RefusesBoundedPlan}
+use Rattle.plan_orders.specs.PlanOrder.{RefusesPlanOrder}
 use Rattle.fence_files.specs.FenceFile.{RefusesFences}
 use Rattle.fence_files.specs.Kinds.{word_of as fence_word}
 use Rattle.reports.specs.Reports.{IsAnswer, IsReport}
@@ -30,7 +31,7 @@ use Rattle.matrix_files.specs.OrderKinds.{order_file_word}
 use Rattle.plan_files.specs.Kinds.{word_of as plan_word}
 use Rattle.requests.specs.Request.{Ordering, natural, min_degree, perm_named, inverse_named, Request, FileRole, NamedFile, tree_file}
 use Rattle.requests.specs.Request.{workflow_file, shared_graph_file, matrix_file, perm_file, inverse_file, order_file, plan_file, priority_file}
-use Rattle.requests.specs.Request.{bounded_plan_file, fence_file, plan_priority_file, files_of, simulate, demo, IsInRange}
+use Rattle.requests.specs.Request.{planned_order_file, bounded_plan_file, fence_file, plan_priority_file, files_of, simulate, demo, IsInRange}
 use Rattle.judging.specs.declared.status.Status.{Status}
 use Rattle.judging.specs.declared.status.Status.TheVariants as status
 
@@ -93,6 +94,7 @@ module _ (ended : Status) (reports : IsOfReports ended) where
   refused inverse_file earlier text answer r at = refused_inverse earlier text answer r at
   refused order_file earlier text answer r at = refused_file (codes "order") order_file_word (RefusesOrder text) text answer r at
   refused plan_file earlier text answer r at = refused_file (codes "plan") plan_word (RefusesPlan text) text answer r at
+  refused planned_order_file earlier text answer r at = refused_file (codes "plan") plan_word (RefusesPlanOrder text) text answer r at
   refused bounded_plan_file earlier text answer r at = refused_file (codes "plan") plan_word (RefusesBoundedPlan text) text answer r at
   refused fence_file earlier text answer r at = refused_file (codes "fences") fence_word (RefusesFences text) text answer r at
   refused (priority_file tasks) earlier text answer (mine, one, system, split, is, r) at =

@@ -58,7 +58,7 @@ IsCarryOf source texts answer =
 
 -- an order of the graph's tasks was printed, with its peak there. It is a traversal of the graph, and its peak is no higher than that of the order that
 -- was given, in the system of a term with the same least peak as the graph: so an order of least peak of the term tells one of the graph
-pub record IsCarried (source : OrderSource) (texts : List (List ℕ)) (printed : List ℕ) : Type 0 where
+pub record IsOrderCarried (source : OrderSource) (texts : List (List ℕ)) (printed : List ℕ) : Type 0 where
   pub text : List ℕ
   pub one : List ℕ
   pub texts_are : texts ≡ text ∷ one ∷ []

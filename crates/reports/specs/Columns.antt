@@ -65,8 +65,8 @@ IsColumnsOf m source format texts answer =
 -- of elimination in which each column comes before its parent in the elimination tree of the old one: so each column of the factor has the same rows,
 -- and two columns share a front in the analysis of the new order exactly where they did before any were merged. Where no fronts were
 -- merged, and the order of the fronts is a postorder of their tree, the new order is its own natural postorder, and its analysis has the same fronts,
--- numbered in the order in which they were told: a solver that postorders the elimination tree makes them in that order. A permutation file that
--- was printed is read as the new order
+-- numbered in the order in which they were told: a solver that postorders the elimination tree with children by rising number makes them in that
+-- order. A permutation file that was printed is read as the new order
 pub record AreColumns (m : Matrix) (source : Option OrderSource) (format : ColumnsFormat) (texts : List (List ℕ)) (printed : List ℕ) : Type 0 where
   pub mine : List (List ℕ)
   pub rest : List (List ℕ)

@@ -21,7 +21,7 @@ use Rattle.reports.specs.SpilledGaps.{AreSpilled}
 use Rattle.reports.specs.Segments.{IsReached}
 use Rattle.reports.specs.Fronts.{IsFactored}
 use Rattle.reports.specs.Columns.{AreColumns}
-use Rattle.reports.specs.Carry.{IsCarried}
+use Rattle.reports.specs.Carry.{IsOrderCarried}
 use Rattle.reports.specs.Reduce.{IsReduced, HasIrreducibleRest, IsReducedItems, HasItemsRefusal, are_second, by_version}
 use Rattle.judging.specs.declared.status.Status.{Status}
 use Rattle.judging.specs.declared.status.Status.TheVariants as status
@@ -94,7 +94,7 @@ Says (reduce name) texts ended printed = by_version (are_second texts)
     ((ended ≡ status.Done → IsReducedItems texts printed) × (ended ≡ status.NotSeriesParallel → HasItemsRefusal texts printed))
 -- where an order was carried from a term to its graph, the order that was printed is a traversal of the graph, with its peak, which is no higher
 -- than that of the order that was given in the system of the term, whose least peak is that of the graph
-Says (carrying graph source) texts ended printed = ended ≡ status.Done → IsCarried source texts printed
+Says (carrying graph source) texts ended printed = ended ≡ status.Done → IsOrderCarried source texts printed
 -- where a bound was printed, no traversal of the task graph has a peak below it, and the evidence was printed with it, which `check` takes;
 -- it is at least what is there at the start, and what each task reads and needs; the peak that was printed before it is that of the order
 Says (bounding graph order effort) texts ended printed = ended ≡ status.Done → IsBounded order texts printed

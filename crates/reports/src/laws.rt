@@ -12,7 +12,7 @@ ghost use Rattle.reports.specs.Reports.{IsAnswer, IsDecided};
 ghost use Rattle.judging.specs.Files.{Answer, HasValue, IsRefusedInRole, IsSystemOf, IsOrderedMatrix, IsSystemWithTerm, IsTaskSystemOf, IsTreeOf};
 ghost use Rattle.reports.specs.Demo.{IsDemoOf, IsShown};
 ghost use Rattle.judging.specs.Judged.{AreWithin};
-ghost use Rattle.reports.specs.Carry.{IsCarried, IsCarryOf};
+ghost use Rattle.reports.specs.Carry.{IsOrderCarried, IsCarryOf};
 ghost use Rattle.reports.specs.Columns.{AreColumns, IsColumnsOf};
 ghost use Rattle.reports.specs.Fronts.{IsFactored, IsFrontsOf};
 ghost use Rattle.reports.specs.Promises.{IsPossible, Says, done_answer};
@@ -42,6 +42,7 @@ use ordering::laws as order_laws;
 use patterns::laws as pattern_laws;
 use peak_bounds::laws as bound_laws;
 use plan_files::laws as plan_laws;
+use plan_orders::laws as plan_order_laws;
 use postorder_best::laws as postorder_laws;
 use rounds_run::laws as rounds_laws;
 use shared_graph_files::laws as shared_graph_laws;
@@ -129,6 +130,7 @@ fn one_file()
     plan_laws::exactly_one();
     shared_graph_laws::exactly_one();
     bounded_plan_laws::exactly_one();
+    plan_order_laws::exactly_one();
     fence_file_laws::exactly_one();
 }
 
@@ -203,7 +205,7 @@ fn one_columns()
     matrix_file_laws::read_is_perm();
     matrix_file_laws::inverse_is_perm();
     matrix_file_laws::printed_perm();
-    plan_laws::exactly_one();
+    plan_order_laws::exactly_one();
     system_laws::traversal_law();
     fill_laws::pattern_of_rows();
     front_laws::one_analysis();
@@ -218,7 +220,7 @@ fn one_columns()
 // An order that is carried from a term to its graph says what it is to say.
 fn carried_orders()
     ensures { (source : OrderSource) (texts : List (List ℕ)) (answer : Answer) → IsCarryOf source texts answer → answer.status ≡ Done →
-        IsCarried source texts answer.text }
+        IsOrderCarried source texts answer.text }
 {
     shared_graph_laws::read_law();
     reduction_laws::named_term_law();
@@ -248,8 +250,8 @@ pub fn one_answer()
     matrix_file_laws::exactly_one_perm();
     matrix_file_laws::read_is_perm();
     plan_laws::exactly_one();
-    plan_laws::read_law();
-    system_laws::traversal_law();
+    plan_order_laws::exactly_one();
+    plan_order_laws::read_law();
     shared_laws::order_law();
     postorder_laws::one_best_postorder();
     claim_laws::accepted_or_objected();

@@ -308,7 +308,10 @@ pub data FileRole : Type 0 where
   -- of the inverse of an order of elimination
   inverse_file : FileRole
   order_file : FileRole
+  -- a plan of version 1 or 2
   plan_file : FileRole
+  -- a plan of any form, of which the order is taken
+  planned_order_file : FileRole
   -- a plan of version 3
   bounded_plan_file : FileRole
   -- fences, with the amounts that certify their bound
@@ -347,7 +350,7 @@ task_files (graph_tasks name) = record { role = shared_graph_file; name = name }
 
 abbrev pub source_file : OrderSource → NamedFile
 source_file (order_named name) = record { role = order_file; name = name }
-source_file (plan_named name) = record { role = plan_file; name = name }
+source_file (plan_named name) = record { role = planned_order_file; name = name }
 
 -- the file of an order, if there is one
 abbrev pub source_files : Option OrderSource → List NamedFile
@@ -376,7 +379,7 @@ files_of (replay tasks source) = task_files tasks ++ source_file source ∷ []
 files_of (tree m) = matrix_files m
 files_of (columns m source format) = matrix_files m ++ source_files source
 files_of (post input) = tree_input_files input
-files_of (check input plan workers) = input_files input ++ source_file (plan_named plan) ∷ []
+files_of (check input plan workers) = input_files input ++ record { role = plan_file; name = plan } ∷ []
 files_of (check_graph graph plan workers) =
     record { role = shared_graph_file; name = graph } ∷ record { role = bounded_plan_file; name = plan } ∷ []
 files_of (check_fences tasks fences) = task_files tasks ++ record { role = fence_file; name = fences } ∷ []

@@ -29,8 +29,9 @@ use Rattle.graph_files.specs.declared.kind.GraphKind.TheVariants as graphs
 use Rattle.matrix_files.specs.MatrixFile.{matrix_format, order_stated, pairs_stated, is_word, size_stated, entry_stated}
 use Rattle.matrix_files.specs.declared.kind.MatrixKind.TheVariants as matrices
 use Rattle.matrix_files.specs.InverseFile.{inverse_of, inverse_format, places_stated}
-use Rattle.matrix_files.specs.OrderFile.{order_format, numbers_stated, tasks_stated, number_after}
+use Rattle.matrix_files.specs.OrderFile.{order_format, numbers_stated, tasks_stated}
 use Rattle.matrix_files.specs.PermFile.{perm_format}
+use Rattle.matrix_files.specs.declared.perm_file.PermKind.{PermKind}
 use Rattle.matrix_files.specs.declared.perm_file.PermKind.TheVariants as perms
 use Rattle.matrix_files.specs.declared.order_file.OrderFileKind.TheVariants as order_files
 
@@ -181,22 +182,30 @@ pub order_refusals :
 unfolding lines_of tokens_of number_of number_from rows_from
 order_refusals = refl
 
--- the same of places, which are counted from 0 here; of a report the numbers between its second line and its end
+-- the same of a file of places of n vertices
+abbrev pub refusal_of_places : ℕ → List ℕ → Option (Refusal PermKind)
+refusal_of_places n bytes = refusal_of Commented (inverse_format n (rows_of_bytes Commented bytes)) bytes
+
+-- places alone, then listings: another number of vertices, another vertex than the next one, a place of 0 from 1 on, one twice, one too few
 pub places_refusals :
-    map (refusal_of Commented (inverse_format 0 3)) (codes "2\n0\n1" ∷ codes "3 1 0" ∷ codes "1 1 0" ∷ codes "0 2\n" ∷ [])
-    ≡ None ∷ Some (fault_at 1 perms.Range) ∷ Some (fault_at 1 perms.Repeated) ∷ Some (fault_at 2 perms.Count) ∷ []
+    map (refusal_of_places 3)
+    (codes "2\n0\n1" ∷ codes "3 1 0" ∷ codes "1 1 0" ∷ codes "0 2\n" ∷ codes "3\n0 2\n1 0\n2 1" ∷ codes "2\n1 3\n2 1\n3 2"
+    ∷ codes "3\n1 3\n3 1\n2 2" ∷ codes "3\n1 3\n2 0\n3 2" ∷ codes "3\n1 3\n2 3\n3 2" ∷ codes "3\n1 3\n2 1\n3" ∷ [])
+    ≡ None ∷ Some (fault_at 1 perms.Range) ∷ Some (fault_at 1 perms.Repeated) ∷ Some (fault_at 2 perms.Count)
+    ∷ None ∷ Some (fault_at 1 perms.Count) ∷ Some (fault_at 3 perms.Range) ∷ Some (fault_at 3 perms.Range)
+    ∷ Some (fault_at 3 perms.Repeated) ∷ Some (fault_at 2 perms.Repeated) ∷ []
 unfolding lines_of tokens_of number_of number_from rows_from
 places_refusals = refl
 
--- vertex 2 is the first whose place is 1, counted from 0 or from 1
-pub inverses : inverse_of (places_stated (rows_of_bytes Commented (codes "2 0\n1")))
-    ∷ inverse_of (places_stated (rows_of_bytes Commented (codes "3 1\n2"))) ∷ []
-    ≡ (2 ∷ 3 ∷ 1 ∷ []) ∷ (2 ∷ 3 ∷ 1 ∷ []) ∷ []
+-- vertex 2 is the first whose place is 1, counted from 0 or from 1, alone or behind the vertices
+pub inverses : map (λ text. inverse_of (places_stated 3 (rows_of_bytes Commented text)))
+    (codes "2 0\n1" ∷ codes "3 1\n2" ∷ codes "3\n0 2\n1 0\n2 1" ∷ codes "3\n1 3\n2 1\n3 2" ∷ [])
+    ≡ (2 ∷ 3 ∷ 1 ∷ []) ∷ (2 ∷ 3 ∷ 1 ∷ []) ∷ (2 ∷ 3 ∷ 1 ∷ []) ∷ (2 ∷ 3 ∷ 1 ∷ []) ∷ []
 unfolding lines_of tokens_of number_of number_from rows_from
 inverses = refl
 
 pub tasks_of_a_report : tasks_stated (rows_of_bytes Commented (codes "peak 9\norder 3\n1 3\n2\nend\n")) ≡ 1 ∷ 3 ∷ 2 ∷ []
-unfolding lines_of tokens_of number_of number_from number_after rows_from
+unfolding lines_of tokens_of number_of number_from after_word rows_from
 tasks_of_a_report = refl
 
 -- a second line of another word; a number too few, and one too many; no end
@@ -206,5 +215,5 @@ pub report_refusals :
     ∷ codes "peak 9\norder 1\n1\n" ∷ [])
     ≡ None ∷ Some (fault_at 2 order_files.Header) ∷ Some (fault_at 4 order_files.Count) ∷ Some (fault_at 4 order_files.Count)
     ∷ Some (fault_at 4 order_files.NoEnd) ∷ []
-unfolding lines_of tokens_of number_of number_from number_after rows_from
+unfolding lines_of tokens_of number_of number_from after_word rows_from
 report_refusals = refl

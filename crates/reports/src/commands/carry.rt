@@ -16,16 +16,12 @@ ghost use Rattle.judging.specs.Pages.{answer_of};
 ghost use Rattle.requests.specs.Request.{carrying};
 ghost use Rattle.requests.specs.RequestViews.{source_view};
 
+use crate::commands::post::post_page;
 use crate::commands::reduce::{arcs_page, refusal_page};
 use graphs::Graph;
-use judging::{
-    EitherGraphFile, Page, PageKind, Stop, judge, judge_order, order_page, print_count, print_end,
-    print_numbers,
-};
+use judging::{EitherGraphFile, Page, Stop, judge, judge_order, order_page};
 use mp_outside::Files;
 use mp_system::{ReplayRefusal, replay};
-use mp_text::Report;
-use mp_text::laws::printed_lines;
 use requests::Carried;
 use shared_graph_files::EitherGraph;
 use shared_reduce::laws::told_term_law;
@@ -73,27 +69,13 @@ fn told_order(
 
 // ---- the report
 
-// `peak PEAK`, `order N`, the tasks, `end`
-fn order_lines(alloc: Global, peak: u64, order: &[u32]) -> Result<Page, AllocError>
-    ensures { IfOk result (λ page. answer_of page ≡ post_answer peak order.now) }
-{
-    printed_lines();
-    let mut report = Report::new(alloc);
-    print_count("peak", peak, &mut report)?;
-    print_count("order", order.len() as u64, &mut report)?;
-    print_numbers(order, &mut report)?;
-    print_end(&mut report)?;
-    let kind = PageKind::Done;
-    Ok(Page { kind, report })
-}
-
 // An order of the graph's tasks, with its peak.
 fn told_page(alloc: Global, system: &SharedSystem, order: &[u32]) -> Result<Page, AllocError>
     requires { IsSharedTraversal system.now order.now }
     ensures { IfOk result (λ page. answer_of page ≡ post_answer (shared_peak_of system.now order.now) order.now) }
 {
     match system.peak(alloc, order) {
-        Ok(peak) => order_lines(alloc, peak, order),
+        Ok(peak) => post_page(alloc, peak, order),
         Err(ReplayRefusal::NoMemory) => Err(AllocError),
         Err(ReplayRefusal::Order(_)) => unreachable!(),
     }

@@ -16,8 +16,8 @@ use requests::TreeInput;
 use std::alloc::{AllocError, Global};
 use trees::Tree;
 
-// `peak PEAK`, `order N`, the nodes, `end`
-fn post_page(alloc: Global, peak: u64, order: &[u32]) -> Result<Page, AllocError>
+/// `peak PEAK`, `order N`, the tasks, `end`.
+pub fn post_page(alloc: Global, peak: u64, order: &[u32]) -> Result<Page, AllocError>
     ensures { IfOk result (λ page. answer_of page ≡ post_answer peak order.now) }
 {
     printed_lines();

@@ -1,7 +1,7 @@
 use Rattle.std.proofs.Common.{ℕ, List, [], ◌∷◌, sym, subst}
 use Rattle.std.specs.Prelude.{codes}
 use Rattle.matrix_files.specs.OrderFile.{RefusesOrder}
-use Rattle.plan_files.specs.PlanFile.{RefusesPlan}
+use Rattle.plan_orders.specs.PlanOrder.{RefusesPlanOrder}
 use Rattle.judging.specs.Files.{IsRefusedFile}
 use Rattle.judging.specs.Judged.{IsStop, IsRefusedSource}
 use Rattle.matrix_files.specs.OrderKinds.{order_file_word}
@@ -36,5 +36,5 @@ returns-in_err-plan-in-Plan-clause-judged g c =
     passed c.from_residual-in_err-plan-in-Plan.result _ _ e c.from_residual-in_err-plan-in-Plan.ensures.1
     (subst (λ (s : OrderSource). IsStop told before after (source_file (source_view s) ∷ []) (IsRefusedSource (source_view s)) e)
     (sym c.in-Plan.is)
-    (alone_stop told before after (source_file source) (λ (text : List ℕ). IsRefusedFile (codes "plan") plan_word (RefusesPlan text) text)
+    (alone_stop told before after (source_file source) (λ (text : List ℕ). IsRefusedFile (codes "plan") plan_word (RefusesPlanOrder text) text)
     (IsRefusedSource source) (λ text answer refused. λ earlier. refused) e c.in_err-plan-in-Plan.ensures.judged))

@@ -26,12 +26,11 @@ returns c =
       systems = c.one_input.ensures.system;
       task_systems = c.one_input.ensures.tasks;
       terms = c.one_input.ensures.term;
-      orders = c.exactly_one_order.ensures.one_order;
+      files = record { orders = c.exactly_one_order.ensures.one_order; plans = c.exactly_one-2.ensures.one_order };
+      ranked = c.read_law.ensures;
       perms = c.exactly_one_perm.ensures.one_order;
       perm = c.read_is_perm.ensures;
       plans = c.exactly_one.ensures.one_plan;
-      plan = c.read_law.ensures;
-      fault = c.traversal_law.ensures.fault;
       shared_fault = c.order_law.ensures.fault;
       long = c.order_law.ensures.long;
       best = c.one_best_postorder.ensures;

@@ -9,8 +9,7 @@ returns-clause-one c =
         orders = c.one_analysis.ensures.order;
         supernodes = c.one_analysis.ensures.supernodes;
       };
-      orders = c.exactly_one_order.ensures.one_order;
-      plans = c.exactly_one.ensures.one_plan;
+      files = record { orders = c.exactly_one_order.ensures.one_order; plans = c.exactly_one.ensures.one_order };
       trees = c.one_analysis.ensures.tree;
       merged = c.amalgamation_is_assembly.ensures;
       front_orders = c.front_orders.ensures;

@@ -16,7 +16,8 @@ returns c =
       };
       plans = record { not_both = c.exactly_one-4.ensures.not_both; one_refusal = c.exactly_one-4.ensures.one_refusal };
       bounded_plans = record { not_both = c.exactly_one-6.ensures.not_both; one_refusal = c.exactly_one-6.ensures.one_refusal };
-      fences = record { not_both = c.exactly_one-7.ensures.not_both; one_refusal = c.exactly_one-7.ensures.one_refusal };
+      planned_orders = record { not_both = c.exactly_one-7.ensures.not_both; one_refusal = c.exactly_one-7.ensures.one_refusal };
+      fences = record { not_both = c.exactly_one-8.ensures.not_both; one_refusal = c.exactly_one-8.ensures.one_refusal };
       patterns = c.exactly_one-3.ensures.one_pattern;
       one_plan = c.exactly_one-4.ensures.one_plan;
       systems = c.one_input.ensures.tasks;
