@@ -63,7 +63,7 @@ pub made : (options : FrontOptions) (rows : List (List ℕ)) (order perm : List 
     (assembly merged : AssemblyTree) (nodes : List Node) (fronts : List ℕ)
     → IsAnalysis rows order perm assembly → length perm ≡ length order → merged ≡ relaxed options.zeros assembly
     → nodes ≡ nodes_of_fronts options.shape options.inplace merged.supers → fronts ≡ fronts_of_columns merged perm
-    → HaveFronts options rows order nodes fronts
+    → HaveFronts options rows order perm nodes fronts
 made options rows order perm assembly merged nodes fronts is len is_merged is_nodes is_fronts =
     let along = λ (p : List ℕ) (n : ℕ). AreSupernodes (parents_of (columns rows p) n) (counts_of (columns rows p) n) assembly in
     let nodes_are = is_nodes ∙ ap (λ (a : AssemblyTree). nodes_of_fronts options.shape options.inplace a.supers) is_merged in
@@ -75,7 +75,6 @@ made options rows order perm assembly merged nodes fronts is len is_merged is_no
         supernodes = subst (λ (p : List ℕ). along p (length order)) is.postordered.along (subst (along perm) len is.supernodes);
         fronts = nodes_are;
       };
-      perm = perm;
       assembly = assembly;
       analysis = is;
       nodes_are = nodes_are;

@@ -141,3 +141,9 @@ shape = 71
 
 abbrev pub node_room : ℕ
 node_room = 72
+
+abbrev pub column_fronts : ℕ
+column_fronts = 73
+
+abbrev pub no_such_front : ℕ
+no_such_front = 74

@@ -18,6 +18,8 @@ use Rattle.permutations.specs.declared.numbers.PermRefusal.{PermRefusal}
 use Rattle.permutations.specs.declared.numbers.PermRefusal.TheVariants as perms
 use Rattle.ordering.specs.declared.minimum_degree.MindegRefusal.{MindegRefusal}
 use Rattle.ordering.specs.declared.minimum_degree.MindegRefusal.TheVariants as degrees
+use Rattle.equivalent_orders.specs.declared.arrays.FrontsRefusal.{FrontsRefusal}
+use Rattle.equivalent_orders.specs.declared.arrays.FrontsRefusal.TheVariants as fronts
 use Rattle.trees.specs.declared.judged.NodeTest.TheVariants as tests
 use Rattle.trees.specs.declared.judged.NodesRefusal.{NodesRefusal}
 use Rattle.trees.specs.declared.judged.NodesRefusal.TheVariants as nodes
@@ -151,6 +153,23 @@ abbrev pub of_degree : MindegRefusal → Answer
 of_degree degrees.Limit = answer status.limit kinds.degree 0 0
 of_degree degrees.NoMemory = no_memory
 
+-- an order of fronts: a fault of it is that of an order of tasks
+abbrev pub of_front_order : PermRefusal → Answer
+of_front_order perms.Places = answer status.usage kinds.places 0 0
+of_front_order (perms.Unknown k) = answer status.no kinds.unknown k 0
+of_front_order (perms.Repeated k) = answer status.no kinds.repeated k 0
+of_front_order perms.NoMemory = no_memory
+
+-- columns, their fronts, and an order of the fronts
+abbrev pub of_fronts : FrontsRefusal → Answer
+of_fronts fronts.ManyColumns = answer status.limit kinds.many_columns 0 0
+of_fronts fronts.Lengths = answer status.usage kinds.column_fronts 0 0
+of_fronts fronts.ManyFronts = answer status.limit kinds.long_order 0 0
+of_fronts (fronts.Columns refusal) = of_perm refusal
+of_fronts (fronts.Fronts refusal) = of_front_order refusal
+of_fronts (fronts.Front k) = answer status.format kinds.no_such_front k 0
+of_fronts fronts.NoMemory = no_memory
+
 abbrev pub answer_to : Refusal → Answer
 answer_to (refusals.Room needed) = answer status.usage kinds.room 0 needed
 answer_to (refusals.ClaimRoom needed) = answer status.usage kinds.claim_room 0 needed
@@ -166,6 +185,7 @@ answer_to (refusals.Spill refusal) = of_spill refusal
 answer_to (refusals.Columns refusal) = of_columns refusal
 answer_to (refusals.Perm refusal) = of_perm refusal
 answer_to (refusals.Degree refusal) = of_degree refusal
+answer_to (refusals.Fronts refusal) = of_fronts refusal
 answer_to (refusals.Plan fault) = of_plan fault
 answer_to (refusals.Objection objection) = of_objection objection
 answer_to refusals.NoMemory = no_memory

@@ -1,5 +1,5 @@
--- The fronts of a matrix of compressed columns: what the call for matrices answers, and why it is refused.
-use Rattle.std.specs.Prelude.{◌≡◌, ◌≢◌, ◌==◌, ℕ, ◌<◌, ◌≤◌, not, if◌then◌else◌, Option, Some, None, List, [], ◌∷◌, length, map}
+-- The fronts of a matrix of compressed columns: what the calls for matrices answer, and why they are refused.
+use Rattle.std.specs.Prelude.{◌≡◌, ◌≢◌, ◌==◌, ◌⊎◌, ℕ, ◌<◌, ◌≤◌, not, if◌then◌else◌, Option, Some, None, List, [], ◌∷◌, length, map}
 use Rattle.std.specs.List.{range_with_len}
 use Rattle.limits.specs.Limits.{most_mindeg}
 use Rattle.patterns.specs.Pattern.{IsPatternOf, is_joined}
@@ -14,6 +14,7 @@ use Rattle.assembly_tree.specs.declared.front.Shape.{Shape}
 use Rattle.assembly_tree.specs.declared.front.Shape.TheVariants.{Triangle, Square}
 use Rattle.symbolic.specs.FrontTree.{IsAnalysis, IsFrontTree, relaxed}
 use Rattle.symbolic.specs.declared.options.FrontOptions.{FrontOptions}
+use Rattle.equivalent_orders.specs.Arrays.{number_from}
 use Rattle.c_calls.specs.declared.fronts.GivenOptions.{GivenOptions}
 use Rattle.c_calls.specs.declared.refusal.Refusal.{Refusal}
 use Rattle.c_calls.specs.declared.refusal.Refusal.TheVariants as refusals
@@ -63,20 +64,28 @@ abbrev pub fronts_of_columns : AssemblyTree → List ℕ → List ℕ
 fronts_of_columns assembly perm = map (λ v. super_of assembly.nodes (place_of perm v)) (range_with_len 1 (length perm))
 
 -- the nodes are the tree of the fronts of a matrix with these rows, eliminated in this order, as the program's `tree` prints it, and the
--- front of each column is that of the supernode in which it lies
-pub record HaveFronts (options : FrontOptions) (rows : List (List ℕ)) (order : List ℕ) (nodes : List Node) (fronts : List ℕ) : Type 0 where
+-- front of each column is that of the supernode in which it lies; the analysis numbers the columns in the order `perm`
+pub record HaveFronts (options : FrontOptions) (rows : List (List ℕ)) (order perm : List ℕ) (nodes : List Node) (fronts : List ℕ)
+    : Type 0 where
   pub tree : IsFrontTree options rows order nodes
-  pub perm : List ℕ
   pub assembly : AssemblyTree
   pub analysis : IsAnalysis rows order perm assembly
   pub nodes_are : nodes ≡ nodes_of_fronts options.shape options.inplace (relaxed options.zeros assembly).supers
   pub fronts_are : fronts ≡ fronts_of_columns (relaxed options.zeros assembly) perm
 
-pub record AreFronts (m : GivenMatrix) (options : FrontOptions) (nodes : List Node) (fronts : List ℕ) : Type 0 where
+-- and the columns are those along the postorder of the elimination tree, as the analysis numbers them
+pub record AreAnalysed (m : GivenMatrix) (options : FrontOptions) (nodes : List Node) (fronts columns : List ℕ) : Type 0 where
   pub rows : List (List ℕ)
   pub order : List ℕ
+  pub perm : List ℕ
   pub is_matrix : IsMatrix m rows order
-  pub have_fronts : HaveFronts options rows order nodes fronts
+  pub have_fronts : HaveFronts options rows order perm nodes fronts
+  pub columns_are : columns ≡ map (number_from m.base) perm
+
+-- the fronts of such an analysis
+pub record AreFronts (m : GivenMatrix) (options : FrontOptions) (nodes : List Node) (fronts : List ℕ) : Type 0 where
+  pub columns : List ℕ
+  pub analysed : AreAnalysed m options nodes fronts columns
 
 -- ---- why there are none
 
@@ -109,3 +118,31 @@ IsMatrixFrontsRefusal m options room columns (refusals.Degree refusal) =
 IsMatrixFrontsRefusal m options room columns (refusals.NodeRoom needed) = IsNodeRoomRefused m (options_given options) room needed
 IsMatrixFrontsRefusal m options room columns refusals.NoMemory = Unit {0}
 IsMatrixFrontsRefusal m options room columns other = ⊥
+
+-- there is not just the room for the columns
+abbrev pub IsColumnRoomRefused : GivenMatrix → ℕ → Refusal → Type 0
+IsColumnRoomRefused m room (refusals.Room needed) = IsRoomRefused (column_count m.starts) room needed
+IsColumnRoomRefused m room other = ⊥
+
+-- the fronts are refused, or the room for the columns
+abbrev pub IsAnalysisRefusal : GivenMatrix → GivenOptions → ℕ → ℕ → ℕ → Refusal → Type 0
+IsAnalysisRefusal m options room fronts columns refusal =
+    IsMatrixFrontsRefusal m options room fronts refusal ⊎ IsColumnRoomRefused m columns refusal
+
+-- ---- the order of minimum degree alone
+
+-- the columns of a matrix in the order of minimum degree
+pub record IsDegreeOrder (base : ℕ) (starts rows columns : List ℕ) : Type 0 where
+  pub pattern : List (List ℕ)
+  pub order : List ℕ
+  pub is_matrix : IsMatrix (matrix_given base starts rows []) pattern order
+  pub columns_are : columns ≡ map (number_from base) order
+
+-- with room for so many columns
+abbrev pub IsDegreeCallRefusal : ℕ → List ℕ → List ℕ → ℕ → Refusal → Type 0
+IsDegreeCallRefusal base starts rows room (refusals.Room needed) = IsRoomRefused (column_count starts) room needed
+IsDegreeCallRefusal base starts rows room (refusals.Columns refusal) = IsColumnsRefusal base starts rows refusal
+IsDegreeCallRefusal base starts rows room (refusals.Degree refusal) =
+    AreColumns base starts rows × IsMindegRefusal (column_count starts) refusal
+IsDegreeCallRefusal base starts rows room refusals.NoMemory = Unit {0}
+IsDegreeCallRefusal base starts rows room other = ⊥

@@ -8,6 +8,7 @@ use Rattle.shared_systems.specs.OneReader.{shared_of}
 use Rattle.shared_systems.specs.Shared.{SharedTaskSystem}
 use Rattle.activation.specs.Machine.{CoreValue, Setting, IsSetting, MayActivate, MayStart, MayFinish, state_after, start_state, used_memory}
 use Rattle.activation.specs.Machine.{booked_memory, is_done}
+use Rattle.activation.specs.Schedule.{StandsBefore}
 use Rattle.activation.specs.declared.events.EventKind.{EventKind}
 use Rattle.activation.specs.declared.events.EventKind.TheVariants.{Activate}
 use Rattle.c_calls.specs.declared.faults.Fault.{Fault}
@@ -55,6 +56,17 @@ abbrev pub IsActivated : SlotValue → ℕ → Type 0
 IsActivated s answer =
     MatchOption s.core (answer ≡ 0) (λ core.
     MatchBool (answer == 0) ((t : ℕ) → MayActivate core.setting core.state t → ⊥) (MayActivate core.setting core.state answer))
+
+-- of the tasks that may start it stands first in the order
+pub record StartsFirst (core : CoreValue) (task : ℕ) : Type 0 where
+  pub legal : MayStart core.setting core.state task
+  pub first : (t : ℕ) → MayStart core.setting core.state t → t ≢ task → StandsBefore core.setting.order task t
+
+-- 0: no task may start, or there is no core; else the answer is the first task that may
+abbrev pub IsNext : SlotValue → ℕ → Type 0
+IsNext s answer =
+    MatchOption s.core (answer ≡ 0) (λ core.
+    MatchBool (answer == 0) ((t : ℕ) → MayStart core.setting core.state t → ⊥) (StartsFirst core answer))
 
 -- 1 for yes, 0 for no
 abbrev pub IsYes : Type 0 → ℕ → Type 0

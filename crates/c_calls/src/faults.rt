@@ -5,12 +5,13 @@ ghost use Rattle.mp_system.specs.declared.judged.SystemRefusal.TheVariants as sy
 ghost use Rattle.shared_systems.specs.declared.judged.SharedRefusal.TheVariants as shared;
 ghost use Rattle.trees.specs.declared.judged.NodesRefusal.TheVariants as nodes;
 ghost use Rattle.c_calls.specs.Faults.{answer, answer_to, of_nodes, of_system, of_shared, of_replay, of_order, of_core, of_spill, of_plan};
-ghost use Rattle.c_calls.specs.Faults.{of_objection, of_columns, of_perm, of_degree};
+ghost use Rattle.c_calls.specs.Faults.{of_objection, of_columns, of_perm, of_degree, of_front_order, of_fronts};
 
 use crate::refusal::{PlanFault, Refusal};
 use crate::{kinds, statuses};
 use activation::CoreRefusal;
 use claim_check::Objection;
+use equivalent_orders::FrontsRefusal;
 use mp_system::{ItemTest, OrderFault, OrderKind, ReplayRefusal, SystemRefusal, TaskTest};
 use ordering::MindegRefusal;
 use patterns::ColumnsRefusal;
@@ -266,6 +267,37 @@ fn of_degree(refusal: MindegRefusal) -> Answer
     }
 }
 
+// An order of fronts.
+fn of_front_order(refusal: PermRefusal) -> Answer
+    ensures { result ≡ of_front_order refusal }
+{
+    match refusal {
+        PermRefusal::Places => say(statuses::USAGE, kinds::PLACES, 0, 0),
+        PermRefusal::Unknown(place) => say(statuses::NO, kinds::UNKNOWN, u64::from(place), 0),
+        PermRefusal::Repeated(place) => say(statuses::NO, kinds::REPEATED, u64::from(place), 0),
+        PermRefusal::NoMemory => no_memory(),
+    }
+}
+
+fn of_fronts(refusal: FrontsRefusal) -> Answer
+    ensures { result ≡ of_fronts refusal }
+{
+    match refusal {
+        FrontsRefusal::ManyColumns => say(statuses::LIMIT, kinds::MANY_COLUMNS, 0, 0),
+        FrontsRefusal::Lengths => say(statuses::USAGE, kinds::COLUMN_FRONTS, 0, 0),
+        FrontsRefusal::ManyFronts => say(statuses::LIMIT, kinds::LONG_ORDER, 0, 0),
+        FrontsRefusal::Columns(refusal) => of_perm(refusal),
+        FrontsRefusal::Fronts(refusal) => of_front_order(refusal),
+        FrontsRefusal::Front(column) => say(
+            statuses::FORMAT,
+            kinds::NO_SUCH_FRONT,
+            u64::from(column),
+            0,
+        ),
+        FrontsRefusal::NoMemory => no_memory(),
+    }
+}
+
 fn answer_of(refusal: Refusal) -> Answer
     ensures { result ≡ answer_to refusal }
 {
@@ -284,6 +316,7 @@ fn answer_of(refusal: Refusal) -> Answer
         Refusal::Columns(refusal) => of_columns(refusal),
         Refusal::Perm(refusal) => of_perm(refusal),
         Refusal::Degree(refusal) => of_degree(refusal),
+        Refusal::Fronts(refusal) => of_fronts(refusal),
         Refusal::Plan(fault) => of_plan(fault),
         Refusal::Objection(objection) => of_objection(objection),
         Refusal::NoMemory => no_memory(),

@@ -1,11 +1,14 @@
 //! The fronts of a matrix.
 
-ghost use Rattle.std.specs.Prelude.{◌≡◌, ◌≢◌, ◌≤◌, ◌<◌, length, take, drop, IfOk, IfErr, OnOk};
+ghost use Rattle.std.specs.Prelude.{◌≡◌, ◌≢◌, ◌≤◌, ◌<◌, length, map, take, drop, IfOk, IfErr, OnOk};
 ghost use Rattle.limits.specs.Limits.{most_order};
+ghost use Rattle.patterns.specs.Columns.{column_count};
 ghost use Rattle.permutations.specs.Perm.{IsPerm};
 ghost use Rattle.c_calls.specs.declared.refusal.Refusal.TheVariants as refusals;
 ghost use Rattle.c_calls.specs.Faults.{IsRefusedFor};
-ghost use Rattle.c_calls.specs.Fronts.{AreFronts, HaveFronts, IsMatrixFrontsRefusal, IsMatrixOrder, IsMatrixOrderRefusal};
+ghost use Rattle.equivalent_orders.specs.Arrays.{number_from};
+ghost use Rattle.c_calls.specs.Fronts.{AreAnalysed, AreFronts, HaveFronts, IsAnalysisRefusal, IsMatrixFrontsRefusal};
+ghost use Rattle.c_calls.specs.Fronts.{IsMatrixOrder, IsMatrixOrderRefusal};
 ghost use Rattle.c_calls.specs.Fronts.{fronts_of_columns, matrix_given, options_given, shape_given};
 
 use crate::faults::{Fault, refuse};
@@ -85,11 +88,12 @@ fn supernodes_of(alloc: Global, assembly: &Assembly, perm: &Perm) -> Result<Vec<
         .collect(alloc)
 }
 
-// The tree of the fronts of a matrix, and the front of each column.
+// The tree of the fronts of a matrix, the front of each column, and the order in which the analysis numbers the columns.
 #[derive(Drop)]
 struct Fronts {
     tree: Tree,
     of_columns: Vec<u32>,
+    perm: Perm,
 }
 
 fn fronts_of_matrix(
@@ -99,8 +103,9 @@ fn fronts_of_matrix(
     options: FrontOptions,
 ) -> Result<Fronts, AllocError>
     requires { IsPerm (length pattern.now) order.now }
-    ensures fronts { IfOk result (λ made. HaveFronts options pattern.now order.now made.tree made.of_columns.items) }
+    ensures fronts { IfOk result (λ made. HaveFronts options pattern.now order.now made.perm made.tree made.of_columns.items) }
     ensures len { IfOk result (λ made. length made.of_columns.items ≡ length pattern.now) }
+    ensures perm_len { IfOk result (λ made. length made.perm ≡ length pattern.now) }
     ensures few { IfOk result (λ made. length made.tree ≤ length pattern.now) }
 {
     amalgamation_is_relaxed();
@@ -109,9 +114,14 @@ fn fronts_of_matrix(
     pattern.keeps();
     let Analysis { numbered, assembly } = analyse(alloc, pattern, order)?;
     let merged = relaxed(alloc, assembly, options.zeros)?;
-    let of_columns = supernodes_of(alloc, &merged, &numbered.perm)?;
+    let perm = numbered.perm;
+    let of_columns = supernodes_of(alloc, &merged, &perm)?;
     let tree = fronts(alloc, &merged, options.shape, options.inplace)?;
-    Ok(Fronts { tree, of_columns })
+    Ok(Fronts {
+        tree,
+        of_columns,
+        perm,
+    })
 }
 
 // With room for so many nodes, and for the fronts of so many columns.
@@ -125,12 +135,15 @@ fn fronts_of_arrays(
     room: usize,
     columns: usize,
 ) -> Result<Fronts, Refusal>
-    ensures fronts { IfOk result (λ made.
-        AreFronts (matrix_given base starts.now rows.now numbers.now) (options_given given) made.tree made.of_columns.items) }
+    ensures analysed { IfOk result (λ made. AreAnalysed (matrix_given base starts.now rows.now numbers.now) (options_given given) made.tree
+        made.of_columns.items (map (number_from base) made.perm)) }
     ensures shape { OnOk result (given.shape ≤ 1) }
+    ensures base { OnOk result (base ≤ 1) }
     ensures fits { IfOk result (λ made. length made.tree ≤ room) }
     ensures len { IfOk result (λ made. length made.of_columns.items ≡ columns) }
+    ensures perm_len { IfOk result (λ made. length made.perm ≡ column_count starts.now) }
     ensures few { IfOk result (λ made. length made.tree ≤ columns) }
+    ensures few_columns { OnOk result (column_count starts.now ≤ most_order) }
     ensures refused { IfErr result (IsMatrixFrontsRefusal (matrix_given base starts.now rows.now numbers.now) given room columns) }
 {
     let options = options_of(given)?;
@@ -156,6 +169,35 @@ fn hand_out_nodes(nodes: &[Node], room: &mut [Node])
 {
     for i in 0..nodes.len() {
         room[i] = nodes[i];
+    }
+}
+
+// Writes the fronts of a matrix, and how many they are.
+fn hand_out_fronts(made: &Fronts, nodes: &mut [Node], count: &mut u64, front_of: &mut [u32])
+    requires fits { length made.now.tree ≤ length nodes.old }
+    requires len { length made.now.of_columns.items ≡ length front_of.old }
+    ensures nodes { take count.new nodes.new ≡ made.now.tree }
+    ensures past { drop count.new nodes.new ≡ drop count.new nodes.old }
+    ensures long { length nodes.new ≡ length nodes.old }
+    ensures count { count.new ≡ length made.now.tree }
+    ensures fronts { front_of.new ≡ made.now.of_columns.items }
+{
+    hand_out_nodes(made.tree.nodes(), nodes);
+    *count = made.tree.nodes().len() as u64;
+    front_of.copy_from_slice(&made.of_columns);
+}
+
+/// Writes an order of elimination by the numbers of its columns, which count from a base.
+pub fn hand_out_columns(base: u32, order: &Perm, columns: &mut [u32])
+    requires base { base ≤ 1 }
+    requires few { length columns.old ≤ most_order }
+    requires len { length order.now ≡ length columns.old }
+    ensures { columns.new ≡ map (number_from base) order.now }
+{
+    order.keeps();
+    for k in 0..columns.len() {
+        let vertex = order.at(k as u32 + 1);
+        columns[k] = vertex - 1 + base;
     }
 }
 
@@ -200,9 +242,88 @@ pub fn matrix_fronts(
         front_of.len(),
     ) {
         Ok(made) => {
-            hand_out_nodes(made.tree.nodes(), nodes);
-            *count = made.tree.nodes().len() as u64;
-            front_of.copy_from_slice(&made.of_columns);
+            hand_out_fronts(&made, nodes, count, front_of);
+            0
+        }
+        Err(refusal) => refuse(refusal, fault),
+    }
+}
+
+// With room for so many nodes, for the fronts of so many columns, and for so many columns.
+fn analysis_of_arrays(
+    alloc: Global,
+    base: u32,
+    starts: &[u32],
+    rows: &[u32],
+    numbers: &[u32],
+    given: GivenOptions,
+    room: usize,
+    fronts: usize,
+    columns: usize,
+) -> Result<Fronts, Refusal>
+    ensures analysed { IfOk result (λ made. AreAnalysed (matrix_given base starts.now rows.now numbers.now) (options_given given) made.tree
+        made.of_columns.items (map (number_from base) made.perm)) }
+    ensures shape { OnOk result (given.shape ≤ 1) }
+    ensures base { OnOk result (base ≤ 1) }
+    ensures fits { IfOk result (λ made. length made.tree ≤ room) }
+    ensures len { IfOk result (λ made. length made.of_columns.items ≡ fronts) }
+    ensures perm_len { IfOk result (λ made. length made.perm ≡ columns) }
+    ensures few { IfOk result (λ made. length made.tree ≤ fronts) }
+    ensures few_columns { OnOk result (columns ≤ most_order) }
+    ensures refused { IfErr result (IsAnalysisRefusal (matrix_given base starts.now rows.now numbers.now) given room fronts columns) }
+{
+    check_room(starts.len().saturating_sub(1), columns)?;
+    let made = fronts_of_arrays(alloc, base, starts, rows, numbers, given, room, fronts)?;
+    Ok(made)
+}
+
+/// The fronts of a matrix, as `matrix_fronts` writes them, and the columns in the order in which its analysis numbers them: along the
+/// postorder of the elimination tree, in which those of each front come after those of its children. Liu 1990 and 1992.
+pub fn matrix_analysis(
+    alloc: Global,
+    base: u32,
+    starts: &[u32],
+    rows: &[u32],
+    order: &[u32],
+    options: &GivenOptions,
+    nodes: &mut [Node],
+    count: &mut u64,
+    front_of: &mut [u32],
+    columns: &mut [u32],
+    fault: &mut Fault,
+) -> u32
+    // 0: the first nodes are the tree of the fronts of the matrix, the front of each column is that of its supernode, and the columns are
+    // those of the same analysis
+    ensures analysed { result ≡ 0 → AreAnalysed (matrix_given base starts.now rows.now order.now) (options_given options.now)
+        (take count.new nodes.new) front_of.new columns.new }
+    // the shape is one that there is
+    ensures shape { result ≡ 0 → options.now.shape ≤ 1 }
+    ensures counted { result ≡ 0 → count.new ≤ length nodes.new }
+    // there are at most as many as columns
+    ensures few { result ≡ 0 → count.new ≤ length front_of.new }
+    ensures past { result ≡ 0 → drop count.new nodes.new ≡ drop count.new nodes.old }
+    ensures refused { result ≢ 0 → IsRefusedFor
+        (IsAnalysisRefusal (matrix_given base starts.now rows.now order.now) options.now (length nodes.old) (length front_of.old)
+        (length columns.old)) result fault.new }
+    ensures unchanged { result ≢ 0 →
+        (nodes.new ≡ nodes.old) × (count.new ≡ count.old) × (front_of.new ≡ front_of.old) × (columns.new ≡ columns.old) }
+    ensures no_fault { result ≡ 0 → fault.new ≡ fault.old }
+{
+    let given = *options;
+    match analysis_of_arrays(
+        alloc,
+        base,
+        starts,
+        rows,
+        order,
+        given,
+        nodes.len(),
+        front_of.len(),
+        columns.len(),
+    ) {
+        Ok(made) => {
+            hand_out_fronts(&made, nodes, count, front_of);
+            hand_out_columns(base, &made.perm, columns);
             0
         }
         Err(refusal) => refuse(refusal, fault),

@@ -93,3 +93,7 @@ pub const DEGREE: u32 = 70;
 pub const SHAPE: u32 = 71;
 
 pub const NODE_ROOM: u32 = 72;
+
+pub const COLUMN_FRONTS: u32 = 73;
+
+pub const NO_SUCH_FRONT: u32 = 74;

@@ -5,6 +5,7 @@ ghost use Rattle.c_calls.specs.declared.refusal.Refusal.TheVariants as refusals;
 
 use activation::CoreRefusal;
 use claim_check::Objection;
+use equivalent_orders::FrontsRefusal;
 use mp_system::{ReplayRefusal, SystemRefusal};
 use ordering::MindegRefusal;
 use patterns::ColumnsRefusal;
@@ -58,6 +59,8 @@ pub enum Refusal {
     Perm(PermRefusal),
     /// There is no order of minimum degree.
     Degree(MindegRefusal),
+    /// The arrays do not tell the columns of fronts.
+    Fronts(FrontsRefusal),
     /// The order, the peak and the claims are no plan.
     Plan(PlanFault),
     /// The plan is not accepted.
@@ -143,6 +146,14 @@ impl From<MindegRefusal> for Refusal {
 
     fn from(refusal: MindegRefusal) -> Refusal {
         Refusal::Degree(refusal)
+    }
+}
+
+impl From<FrontsRefusal> for Refusal {
+    ghost from_gives = { λ r e. e ≡ refusals.Fronts r };
+
+    fn from(refusal: FrontsRefusal) -> Refusal {
+        Refusal::Fronts(refusal)
     }
 }
 

@@ -10,8 +10,8 @@ ghost use Rattle.activation.specs.Machine.{IsSetting};
 ghost use Rattle.activation.specs.declared.events.EventKind.TheVariants.{Start, Finish};
 ghost use Rattle.trees.specs.Tree.{IsTree, system_of_nodes};
 ghost use Rattle.c_calls.specs.Refusals.{IsBeginRefusal, IsSystemBeginRefusal, IsSharedBeginRefusal};
-ghost use Rattle.c_calls.specs.Slots.{empty, core_setting, own_setting, core_at_start, begun, IsCoreBegun, activated, IsActivated, stepped};
-ghost use Rattle.c_calls.specs.Slots.{IsStarted, IsFinished, IsDone, used_in, booked_in};
+ghost use Rattle.c_calls.specs.Slots.{empty, core_setting, own_setting, core_at_start, begun, IsCoreBegun, activated, IsActivated};
+ghost use Rattle.c_calls.specs.Slots.{IsNext, stepped, IsStarted, IsFinished, IsDone, used_in, booked_in};
 
 use crate::faults::{Fault, refuse};
 use crate::refusal::Refusal;
@@ -202,6 +202,16 @@ pub fn activate(slot: &mut Slot) -> u32
             core.keeps();
             core.activate().unwrap_or(0)
         }
+        None => 0,
+    }
+}
+
+/// Of the tasks that may start now the one that stands first in the order: its number, or 0.
+pub fn next(slot: &mut Slot) -> u32
+    ensures { (slot.new ≡ slot.old) × IsNext slot.old result }
+{
+    match &slot.core {
+        Some(core) => core.next_startable().unwrap_or(0),
         None => 0,
     }
 }

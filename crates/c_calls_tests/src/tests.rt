@@ -1,6 +1,7 @@
 //! The calls over inputs that are worked by hand. The programs of c/test make them from C, with each refusal.
 
 mod arrays;
+mod columns;
 mod cores;
 mod fronts;
 mod readers;

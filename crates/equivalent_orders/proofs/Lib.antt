@@ -18,3 +18,4 @@ pub mod SameFronts
 pub mod Own
 pub mod OwnFronts
 pub mod Rows
+pub mod ColumnArrays

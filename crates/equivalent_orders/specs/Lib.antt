@@ -1,3 +1,4 @@
+pub mod Arrays
 pub mod FrontPostorders
 pub mod Fronts
 pub mod Orders

@@ -1,9 +1,10 @@
 //! Laws of orders of elimination: which of them have the same fill and the same elimination tree.
 
-ghost use Rattle.std.specs.Prelude.{◌≡◌, ◌↔◌, ℕ, Bool, List, Option, length};
+ghost use Rattle.std.specs.Prelude.{◌≡◌, ◌↔◌, ℕ, Bool, List, Option, All, length, map};
 ghost use Rattle.std.specs.List.{range_with_len};
 ghost use Rattle.mp_system.specs.Traversal.{IsTraversal};
 ghost use Rattle.patterns.specs.Pattern.{IsPattern, is_joined};
+ghost use Rattle.permutations.specs.Order.{order_given};
 ghost use Rattle.permutations.specs.Perm.{IsPerm, IsVertex, place_of};
 ghost use Rattle.ordering.specs.Fill.{IsAdjacency};
 ghost use Rattle.elim_tree.specs.Paths.{IsWithin};
@@ -14,6 +15,7 @@ ghost use Rattle.assembly_tree.specs.declared.front.Shape.{Shape};
 ghost use Rattle.assembly_tree.specs.Assembly.{AssemblyTree, IsAssembly, IsSuper};
 ghost use Rattle.assembly_tree.specs.Fronts.{nodes_of_fronts};
 ghost use Rattle.symbolic.specs.FrontTree.{IsAnalysis, relaxed};
+ghost use Rattle.equivalent_orders.specs.Arrays.{columns_along, number_from};
 ghost use Rattle.equivalent_orders.specs.Orders.{IsTopological, is_in_column, parent_vertex, column_count};
 ghost use Rattle.equivalent_orders.specs.Fronts.{IsFrontOrder, front_of_vertex, vertices_along};
 ghost use Rattle.equivalent_orders.specs.FrontPostorders.{IsFrontPostorder, StandTogether, fronts_along};
@@ -122,4 +124,15 @@ pub fn own_fronts()
     ensures columns { (rows : List (List ℕ)) (order perm : List ℕ) (assembly : AssemblyTree) → IsPattern rows →
         length order ≡ length rows → IsAnalysis rows order perm assembly →
         vertices_along perm assembly (range_with_len 1 (length assembly.supers)) ≡ perm }
+{}
+
+/// Arrays of the columns of an assembly tree and of their fronts, where the columns count from a base, tell the order along the fronts.
+pub fn columns_in_arrays()
+    ensures along { (base : ℕ) (perm fronts : List ℕ) (assembly : AssemblyTree) → IsPerm (length perm) perm →
+        length perm ≡ length assembly.nodes →
+        columns_along base (map (number_from base) perm) (map (front_of_vertex perm assembly) (range_with_len 1 (length perm))) fronts
+        ≡ map (number_from base) (vertices_along perm assembly fronts) }
+    // numbers that count from a base are those of the vertices
+    ensures counted { (base n : ℕ) (vertices : List ℕ) → All (IsVertex n) vertices →
+        order_given base (map (number_from base) vertices) ≡ vertices }
 {}

@@ -1,11 +1,13 @@
 //! Columns and vertices of fronts worked by hand, and orders along fronts.
 
 use assembly_tree::Assembly;
-use equivalent_orders::{columns_by_front, order_along, vertices_by_front};
+use equivalent_orders::{
+    FrontsRefusal, columns_along, columns_by_front, order_along, vertices_by_front,
+};
 use matrix_files::{read_pattern, read_perm};
 use ordering::min_degree;
 use patterns::Pattern;
-use permutations::Perm;
+use permutations::{Perm, PermRefusal};
 use row_table::RowTable;
 use std::alloc::Global;
 use std::process::Abort;
@@ -159,4 +161,48 @@ fn fronts_by_minimum_degree(rt: HostRuntime) -> Result<(), Fail> {
         check_case(&rt, rt.alloc(), &pattern, &perm, case)?;
     }
     Ok(())
+}
+
+// Columns from 0 in the order in which they stand, the front of each by its number, the fronts in an order, and the columns along it.
+#[rattlefmt::skip]
+const IN_ARRAYS: &[(&[u32], &[u32], &[u32], &[u32])] = &[
+    (&[1, 2, 0, 3], &[3, 1, 2, 3], &[2, 1, 3], &[2, 1, 0, 3]),
+    (&[0, 2, 1, 3, 4], &[1, 3, 2, 4, 5], &[3, 4, 1, 2, 5], &[1, 3, 0, 2, 4]),
+    // one front, whose columns do not rise
+    (&[1, 0], &[1, 1], &[1], &[1, 0]),
+    // the second front has no column
+    (&[1, 0], &[1, 1], &[2, 1], &[1, 0]),
+    (&[], &[], &[], &[]),
+];
+
+#[test]
+fn columns_in_arrays_by_hand(rt: HostRuntime) {
+    for (columns, front_of, fronts, along) in IN_ARRAYS {
+        match columns_along(rt.alloc(), 0, columns, front_of, fronts) {
+            Ok(order) => assert_eq!(rt; order.as_slice(), *along),
+            Err(_) => assert!(rt; false),
+        }
+    }
+}
+
+// The columns 5, 6 and 7 in some order, their fronts, the fronts in some order, and why they are refused.
+#[rattlefmt::skip]
+const REFUSED: &[(&[u32], &[u32], &[u32], FrontsRefusal)] = &[
+    (&[5, 6, 7], &[1, 1], &[1], FrontsRefusal::Lengths),
+    (&[5, 6, 5], &[1, 1, 1], &[1], FrontsRefusal::Columns(PermRefusal::Repeated(3))),
+    (&[5, 4, 7], &[1, 1, 1], &[1], FrontsRefusal::Columns(PermRefusal::Unknown(2))),
+    (&[5, 6, 7], &[1, 2, 1], &[2, 2], FrontsRefusal::Fronts(PermRefusal::Repeated(2))),
+    (&[5, 6, 7], &[1, 2, 1], &[0, 1], FrontsRefusal::Fronts(PermRefusal::Unknown(1))),
+    (&[7, 6, 5], &[1, 0, 4], &[2, 1], FrontsRefusal::Front(2)),
+    (&[7, 6, 5], &[1, 2, 3], &[2, 1], FrontsRefusal::Front(3)),
+];
+
+#[test]
+fn arrays_that_are_refused(rt: HostRuntime) {
+    for (columns, front_of, fronts, refusal) in REFUSED {
+        match columns_along(rt.alloc(), 5, columns, front_of, fronts) {
+            Ok(_) => assert!(rt; false),
+            Err(found) => assert_eq!(rt; found, *refusal),
+        }
+    }
 }

@@ -3,14 +3,17 @@
 ghost use Rattle.std.specs.Prelude.{◌≡◌, ◌≢◌, ◌≤◌, length, take, drop};
 ghost use Rattle.c_calls.specs.Answers.{IsBestOrder, IsBestPost, IsReplayed, IsTreeSpilled, IsTreeCertified, IsSystemReplayed, IsSharedReplayed};
 ghost use Rattle.c_calls.specs.Faults.{IsRefusedFor};
-ghost use Rattle.c_calls.specs.Fronts.{AreFronts, IsMatrixFrontsRefusal, matrix_given, options_given};
+ghost use Rattle.c_calls.specs.Columns.{AreAlongFronts, IsColumnsCallRefusal};
+ghost use Rattle.c_calls.specs.Fronts.{AreAnalysed, AreFronts, IsAnalysisRefusal, IsMatrixFrontsRefusal, matrix_given, options_given};
+ghost use Rattle.c_calls.specs.Fronts.{IsDegreeCallRefusal, IsDegreeOrder};
 ghost use Rattle.c_calls.specs.Refusals.{IsPlanningRefusal, IsReplayRefusal, IsSpillCallRefusal, IsCheckRefusal, IsCertifyRefusal};
 ghost use Rattle.c_calls.specs.Answers.{IsSharedPlanned};
 ghost use Rattle.c_calls.specs.Refusals.{IsSystemReplayRefusal, IsSharedReplayRefusal, IsSharedPlanRefusal};
 
 use c_calls::{
-    Claim, Fault, GivenOptions, best_postorder, certify_tree, check_tree, matrix_fronts,
-    plan_shared, plan_tree, replay_shared, replay_system, replay_tree, spill_tree,
+    Claim, Fault, GivenOptions, best_postorder, certify_tree, check_tree, front_columns,
+    matrix_analysis, matrix_fronts, minimum_degree, plan_shared, plan_tree, replay_shared,
+    replay_system, replay_tree, spill_tree,
 };
 use mp_system::{GivenItem, GivenTask};
 use shared_systems::GivenSharedItem;
@@ -238,4 +241,84 @@ pub extern "C" fn memplan_fronts(
     matrix_fronts(
         alloc, base, starts, rows, order, options, nodes, count, front_of, fault,
     )
+}
+
+/// The fronts of a matrix, as `memplan_fronts` writes them, and the columns in the order in which its analysis numbers them: along the
+/// postorder of the elimination tree, in which those of each front come after those of its children. Liu 1990 and 1992.
+#[unsafe(no_mangle)]
+pub extern "C" fn memplan_analyse(
+    alloc: Global,
+    base: u32,
+    starts: &[u32],
+    rows: &[u32],
+    order: &[u32],
+    options: &GivenOptions,
+    nodes: &mut [Node],
+    count: &mut u64,
+    front_of: &mut [u32],
+    columns: &mut [u32],
+    fault: &mut Fault,
+) -> u32
+    // 0: the first nodes are the tree of the fronts of the matrix, the front of each column is that of its supernode, and the columns are
+    // those of the same analysis
+    ensures analysed { result ≡ 0 → AreAnalysed (matrix_given base starts.now rows.now order.now) (options_given options.now)
+        (take count.new nodes.new) front_of.new columns.new }
+    // the shape is one that there is
+    ensures shape { result ≡ 0 → options.now.shape ≤ 1 }
+    ensures counted { result ≡ 0 → count.new ≤ length nodes.new }
+    // there are at most as many as columns
+    ensures few { result ≡ 0 → count.new ≤ length front_of.new }
+    ensures past { result ≡ 0 → drop count.new nodes.new ≡ drop count.new nodes.old }
+    ensures refused { result ≢ 0 → IsRefusedFor
+        (IsAnalysisRefusal (matrix_given base starts.now rows.now order.now) options.now (length nodes.old) (length front_of.old)
+        (length columns.old)) result fault.new }
+    ensures unchanged { result ≢ 0 →
+        (nodes.new ≡ nodes.old) × (count.new ≡ count.old) × (front_of.new ≡ front_of.old) × (columns.new ≡ columns.old) }
+    ensures no_fault { result ≡ 0 → fault.new ≡ fault.old }
+{
+    matrix_analysis(
+        alloc, base, starts, rows, order, options, nodes, count, front_of, columns, fault,
+    )
+}
+
+/// The columns of each front in the order in which they stand, one front after another in their order. Where the columns and their fronts
+/// come from `memplan_analyse`, and the order of the fronts is one of their tree, this is an order of elimination with the same fill
+/// (`columns_of_analysis`, a law of `c_calls`). Liu 1990 and 1992.
+#[unsafe(no_mangle)]
+pub extern "C" fn memplan_columns(
+    alloc: Global,
+    base: u32,
+    columns: &[u32],
+    front_of: &[u32],
+    fronts: &[u32],
+    new_columns: &mut [u32],
+    fault: &mut Fault,
+) -> u32
+    // 0: each column and each front is there once, and the new columns are those of each front, front by front
+    ensures along { result ≡ 0 → AreAlongFronts base columns.now front_of.now fronts.now new_columns.new }
+    ensures refused { result ≢ 0 → IsRefusedFor
+        (IsColumnsCallRefusal base columns.now front_of.now fronts.now (length new_columns.old)) result fault.new }
+    ensures unchanged { result ≢ 0 → new_columns.new ≡ new_columns.old }
+    ensures no_fault { result ≡ 0 → fault.new ≡ fault.old }
+{
+    front_columns(alloc, base, columns, front_of, fronts, new_columns, fault)
+}
+
+/// The columns of a matrix in the order of minimum degree, which `memplan_fronts` takes where none is given. George and Liu 1989.
+#[unsafe(no_mangle)]
+pub extern "C" fn memplan_minimum_degree(
+    alloc: Global,
+    base: u32,
+    starts: &[u32],
+    rows: &[u32],
+    columns: &mut [u32],
+    fault: &mut Fault,
+) -> u32
+    // 0: the columns are those of the matrix, in the order of minimum degree
+    ensures ordered { result ≡ 0 → IsDegreeOrder base starts.now rows.now columns.new }
+    ensures refused { result ≢ 0 → IsRefusedFor (IsDegreeCallRefusal base starts.now rows.now (length columns.old)) result fault.new }
+    ensures unchanged { result ≢ 0 → columns.new ≡ columns.old }
+    ensures no_fault { result ≡ 0 → fault.new ≡ fault.old }
+{
+    minimum_degree(alloc, base, starts, rows, columns, fault)
 }

@@ -10,8 +10,8 @@ ghost use Rattle.shared_systems.specs.Bounds.{IsSharedSystem};
 ghost use Rattle.shared_systems.specs.Given.{shared_system_given};
 ghost use Rattle.trees.specs.Tree.{IsTree, system_of_nodes};
 ghost use Rattle.c_calls.specs.Refusals.{IsBeginRefusal, IsSystemBeginRefusal, IsSharedBeginRefusal};
-ghost use Rattle.c_calls.specs.Slots.{SlotValue, empty, core_setting, own_setting, begun, IsCoreBegun, activated, IsActivated, stepped};
-ghost use Rattle.c_calls.specs.Slots.{IsStarted, IsFinished, IsDone, used_in, booked_in};
+ghost use Rattle.c_calls.specs.Slots.{SlotValue, empty, core_setting, own_setting, begun, IsCoreBegun, activated, IsActivated};
+ghost use Rattle.c_calls.specs.Slots.{IsNext, stepped, IsStarted, IsFinished, IsDone, used_in, booked_in};
 ghost use Rattle.c_calls.specs.contracts.slot.Slot.{the_row};
 ghost use prog.Memory.{size, capped};
 ghost use denote.Param.{layout};
@@ -19,7 +19,7 @@ ghost use denote.Param.{layout};
 use c_calls::Fault;
 use c_calls::slot::{
     Slot, activate, begin, begin_shared, begin_system, booked, end, finish, is_done, is_startable,
-    make, start, used,
+    make, next, start, used,
 };
 use mp_system::{GivenItem, GivenTask};
 use shared_systems::GivenSharedItem;
@@ -156,6 +156,16 @@ pub unsafe extern "C" fn memplan_core_activate(slot: *mut Handle) -> u32
     ensures* { sem 𝓛 (lies_at the_row full_share slot (activated held result)) ∗ ⌜ IsActivated held result ⌝ }
 {
     activate(&mut *(slot as *mut Slot))
+}
+
+/// Of the tasks that may start now the one that stands first in the order: its number, or 0. In constant time.
+#[unsafe(no_mangle)]
+pub unsafe extern "C" fn memplan_core_next(slot: *mut Handle) -> u32
+    ghost held: { SlotValue }
+    requires* { sem 𝓛 (lies_at the_row full_share slot held) }
+    ensures* { sem 𝓛 (lies_at the_row full_share slot (held)) ∗ ⌜ IsNext held result ⌝ }
+{
+    next(&mut *(slot as *mut Slot))
 }
 
 /// Starts an activated task whose suppliers are done, where a worker is free: 1, or 0.
