@@ -97,7 +97,7 @@ typedef struct memplan_core memplan_core;
 
 enum memplan_status {
     MEMPLAN_DONE = 0,        /* the call did what it is for */
-    MEMPLAN_NO = 1,          /* the order is no traversal, or the plan is not accepted */
+    MEMPLAN_NO = 1,          /* the order is no traversal, or none of the fronts, or the plan is not accepted */
     MEMPLAN_USAGE = 2,       /* a length, an option, or the number of workers, does not fit */
     MEMPLAN_FORMAT = 3,      /* the nodes are no tree, the columns no matrix, or a claim is out of place */
     MEMPLAN_LIMIT = 4,       /* a limit is passed */
@@ -173,8 +173,12 @@ enum memplan_kind {
     MEMPLAN_KIND_COLUMN_REPEATED = 69, /* the column stood before */
     MEMPLAN_KIND_DEGREE = 70,          /* more than 50,000 columns are not ordered by minimum degree */
 
-    MEMPLAN_KIND_SHAPE = 71,    /* no shape has this number */
-    MEMPLAN_KIND_NODE_ROOM = 72 /* value: how many nodes there must be room for */
+    MEMPLAN_KIND_SHAPE = 71,     /* no shape has this number */
+    MEMPLAN_KIND_NODE_ROOM = 72, /* value: how many nodes there must be room for */
+
+    /* columns of fronts */
+    MEMPLAN_KIND_COLUMN_FRONTS = 73, /* there are not as many fronts of columns as columns */
+    MEMPLAN_KIND_NO_SUCH_FRONT = 74  /* at: the first column whose front is none of those in the order */
 };
 
 /* ---- trees ---- */
@@ -264,6 +268,51 @@ uint32_t memplan_fronts(uint32_t base, const uint32_t *starts, size_t start_coun
                         const uint32_t *order, size_t places, const memplan_front_options *options, memplan_node *nodes, size_t room,
                         uint64_t *count, uint32_t *front_of, size_t columns, memplan_fault *fault);
 
+/* The same, and the columns in the order in which the analysis numbers them: along the postorder of the elimination tree. It has the same
+ * fill as the order that is given, and the columns of each front come after those of its children.
+ *
+ * columns, places_of_columns   where this order goes, counted from base; places_of_columns must be the number of columns
+ *
+ * MEMPLAN_DONE    as above, and columns has each column once. */
+uint32_t memplan_analyse(uint32_t base, const uint32_t *starts, size_t start_count, const uint32_t *rows, size_t entries,
+                         const uint32_t *order, size_t places, const memplan_front_options *options, memplan_node *nodes, size_t room,
+                         uint64_t *count, uint32_t *front_of, size_t front_of_columns, uint32_t *columns, size_t places_of_columns,
+                         memplan_fault *fault);
+
+/* An order of the fronts as an order of elimination, for a solver: the columns of each front, in the order in which they stand in columns,
+ * one front after another. Where columns and front_of come from memplan_analyse, and fronts from memplan_plan_tree or
+ * memplan_best_postorder, each column comes before its parent in the elimination tree of the order that was analysed. So the factor has as
+ * many entries, in the same rows of each column; and where no fronts were merged, those of the new order have the same columns. Fronts in a
+ * postorder that were not merged are made in just this order by a solver that postorders the elimination tree.
+ *
+ * base                 what columns and new_columns count from
+ * columns, count       each column once, in the order in which they are eliminated
+ * front_of, of_columns the front of each column, from 1, at the place that its number tells; of_columns must be count
+ * fronts, front_count  each front once, from 1 on
+ * new_columns, places  where the new order goes; places must be count
+ *
+ * MEMPLAN_DONE    new_columns has each column once, front by front.
+ * MEMPLAN_USAGE   a length does not fit.
+ * MEMPLAN_FORMAT  the first place at which the columns are not each of them once, or the first column whose front is none of the order.
+ * MEMPLAN_NO      the first place at which the fronts are not each of them once.
+ * else            MEMPLAN_LIMIT, MEMPLAN_NO_MEMORY.
+ *
+ * Linear in the columns. */
+uint32_t memplan_columns(uint32_t base, const uint32_t *columns, size_t count, const uint32_t *front_of, size_t of_columns,
+                         const uint32_t *fronts, size_t front_count, uint32_t *new_columns, size_t places, memplan_fault *fault);
+
+/* The columns of a matrix in the order of minimum degree, which memplan_fronts takes where places is 0.
+ *
+ * base, starts, rows   as for memplan_fronts
+ * columns, places      where the order goes, counted from base; places must be the number of columns
+ *
+ * MEMPLAN_DONE    columns has each column once: at each turn one of least degree, and of several the one of least number.
+ * MEMPLAN_USAGE   a length or the base does not fit.
+ * MEMPLAN_FORMAT  the first place at which the columns are none of a matrix.
+ * else            MEMPLAN_LIMIT, also where there are more columns than it takes, MEMPLAN_NO_MEMORY. */
+uint32_t memplan_minimum_degree(uint32_t base, const uint32_t *starts, size_t start_count, const uint32_t *rows, size_t entries,
+                                uint32_t *columns, size_t places, memplan_fault *fault);
+
 /* ---- systems ---- */
 
 /* The peak of an order of tasks that hand items to each other: as memplan_replay_tree. Whether the tasks can be ordered at all is no
@@ -327,7 +376,15 @@ uint32_t memplan_plan_shared(const memplan_task *tasks, size_t count, const memp
  *
  *     memplan_core *core = malloc(memplan_core_size());
  *     memplan_core_new(core);
- *     if (memplan_core_begin(core, nodes, n, order, n, bound, workers, &fault) == MEMPLAN_DONE) ..
+ *     if (memplan_core_begin(core, nodes, n, order, n, bound, workers, &fault) == MEMPLAN_DONE)
+ *         for (size_t left = n; left; left--) {
+ *             uint32_t task;
+ *             while (memplan_core_activate(core))
+ *                 ;
+ *             while ((task = memplan_core_next(core)) && memplan_core_start(core, task))
+ *                 give(task);                            a worker runs it
+ *             memplan_core_finish(core, wait_for_one()); a task that a worker has run
+ *         }
  *     memplan_core_end(core);
  *     free(core);
  *
@@ -360,6 +417,10 @@ uint32_t memplan_core_begin_shared(memplan_core *core, const memplan_task *tasks
 
 /* Activates the next task of the order where its need fits under the bound: its number, or 0. */
 uint32_t memplan_core_activate(memplan_core *core);
+
+/* Of the tasks that may start now the one that stands first in the order; 0 just where none may. It changes nothing, so it answers the same
+ * until a task is activated, started or finished. Whoever asks it needs no list of tasks that wait: it takes constant time. */
+uint32_t memplan_core_next(memplan_core *core);
 
 /* Starts a task: 1 just where it is activated and has not started, what it consumes has been produced, and a worker is free; else 0. */
 uint32_t memplan_core_start(memplan_core *core, uint32_t task);

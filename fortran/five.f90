@@ -32,6 +32,7 @@ program five
    do
       task = memplan_core_activate(core)
       if (task == 0) exit
+      if (memplan_core_next(core) /= task) error stop 'next'
       if (memplan_core_start(core, task) /= 1) error stop 'start'
       top = max(top, memplan_core_used(core))
       if (memplan_core_finish(core, task) /= 1) error stop 'finish'

@@ -71,9 +71,10 @@ module memplan
 
    public :: memplan_plan_tree, memplan_certify_tree, memplan_check_tree, memplan_best_postorder, memplan_replay_tree
    public :: memplan_spill_tree, memplan_fronts, memplan_replay_system, memplan_replay_shared, memplan_plan_shared
+   public :: memplan_analyse, memplan_columns, memplan_minimum_degree
    public :: memplan_core_size, memplan_core_new, memplan_core_begin, memplan_core_begin_system, memplan_core_begin_shared
-   public :: memplan_core_activate, memplan_core_start, memplan_core_finish, memplan_core_is_startable, memplan_core_is_done
-   public :: memplan_core_used, memplan_core_booked, memplan_core_end
+   public :: memplan_core_activate, memplan_core_next, memplan_core_start, memplan_core_finish, memplan_core_is_startable
+   public :: memplan_core_is_done, memplan_core_used, memplan_core_booked, memplan_core_end
 
    interface
       function memplan_plan_tree(nodes, count, order, places, peak, fault) result(status) bind(c)
@@ -153,6 +154,41 @@ module memplan
          type(memplan_fault), intent(inout) :: fault
          integer(c_int32_t) :: status
       end function memplan_fronts
+
+      function memplan_analyse(base, starts, start_count, rows, entries, order, places, options, nodes, room, count, front_of, &
+         front_of_columns, columns, places_of_columns, fault) result(status) bind(c)
+         import :: c_int32_t, c_int64_t, c_size_t, memplan_node, memplan_front_options, memplan_fault
+         integer(c_int32_t), value :: base
+         integer(c_int32_t), intent(in) :: starts(*), rows(*), order(*)
+         integer(c_size_t), value :: start_count, entries, places, room, front_of_columns, places_of_columns
+         type(memplan_front_options), intent(in) :: options
+         type(memplan_node), intent(inout) :: nodes(*)
+         integer(c_int64_t), intent(inout) :: count
+         integer(c_int32_t), intent(inout) :: front_of(*), columns(*)
+         type(memplan_fault), intent(inout) :: fault
+         integer(c_int32_t) :: status
+      end function memplan_analyse
+
+      function memplan_minimum_degree(base, starts, start_count, rows, entries, columns, places, fault) result(status) bind(c)
+         import :: c_int32_t, c_size_t, memplan_fault
+         integer(c_int32_t), value :: base
+         integer(c_int32_t), intent(in) :: starts(*), rows(*)
+         integer(c_size_t), value :: start_count, entries, places
+         integer(c_int32_t), intent(inout) :: columns(*)
+         type(memplan_fault), intent(inout) :: fault
+         integer(c_int32_t) :: status
+      end function memplan_minimum_degree
+
+      function memplan_columns(base, columns, count, front_of, of_columns, fronts, front_count, new_columns, places, fault) &
+         result(status) bind(c)
+         import :: c_int32_t, c_size_t, memplan_fault
+         integer(c_int32_t), value :: base
+         integer(c_int32_t), intent(in) :: columns(*), front_of(*), fronts(*)
+         integer(c_size_t), value :: count, of_columns, front_count, places
+         integer(c_int32_t), intent(inout) :: new_columns(*)
+         type(memplan_fault), intent(inout) :: fault
+         integer(c_int32_t) :: status
+      end function memplan_columns
 
       function memplan_replay_system(tasks, count, items, item_count, order, places, peak, fault) result(status) bind(c)
          import :: c_int32_t, c_int64_t, c_size_t, memplan_task, memplan_item, memplan_fault
@@ -246,6 +282,12 @@ module memplan
          type(c_ptr), value :: core
          integer(c_int32_t) :: task
       end function memplan_core_activate
+
+      function memplan_core_next(core) result(task) bind(c)
+         import :: c_int32_t, c_ptr
+         type(c_ptr), value :: core
+         integer(c_int32_t) :: task
+      end function memplan_core_next
 
       function memplan_core_start(core, task) result(yes) bind(c)
          import :: c_int32_t, c_ptr

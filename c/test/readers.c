@@ -163,11 +163,13 @@ static void runs_two_at_once(memplan_core *core)
     memplan_fault fault = untouched;
     CHECK(begun(core, 24, &fault) == MEMPLAN_DONE);
     CHECK(memplan_core_activate(core) == 1 && memplan_core_activate(core) == 2 && memplan_core_activate(core) == 0);
-    CHECK(memplan_core_start(core, 1) == 1 && memplan_core_start(core, 2) == 1 && memplan_core_used(core) == 24);
+    CHECK(memplan_core_next(core) == 1 && memplan_core_start(core, 1) == 1 && memplan_core_next(core) == 2);
+    CHECK(memplan_core_start(core, 2) == 1 && memplan_core_used(core) == 24 && memplan_core_next(core) == 0);
     CHECK(memplan_core_finish(core, 2) == 1 && memplan_core_finish(core, 1) == 1 && memplan_core_used(core) == 17);
     CHECK(memplan_core_activate(core) == 3 && memplan_core_activate(core) == 4 && memplan_core_booked(core) == 24);
     CHECK(memplan_core_is_startable(core, 4) == 0 && memplan_core_start(core, 3) == 1 && memplan_core_is_startable(core, 4) == 0);
-    CHECK(memplan_core_finish(core, 3) == 1 && memplan_core_used(core) == 12 && memplan_core_is_startable(core, 4) == 1);
+    CHECK(memplan_core_next(core) == 0 && memplan_core_finish(core, 3) == 1 && memplan_core_used(core) == 12);
+    CHECK(memplan_core_next(core) == 4 && memplan_core_is_startable(core, 4) == 1);
 }
 
 int main(void)

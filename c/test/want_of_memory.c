@@ -5,11 +5,11 @@
 #include <sys/resource.h>
 #include <unistd.h>
 
-enum { COUNT = 300000, CALLS = 11, PLACES = 28 };
+enum { COUNT = 300000, CALLS = 14, PLACES = 28, OF_COLUMNS = 11, OF_DEGREE = 12, FEW = 50000 };
 
 static memplan_node *nodes;
 static uint32_t *order;
-static uint32_t *starts, *rows, *front_of;
+static uint32_t *starts, *rows, *front_of, *columns, zeros[FEW + 1];
 static memplan_node *fronts;
 static uint64_t *amounts;
 static memplan_task *tasks;
@@ -48,8 +48,9 @@ static void make_band(void)
     starts = malloc((COUNT + 1) * sizeof *starts);
     rows = malloc(COUNT * sizeof *rows);
     front_of = calloc(COUNT, sizeof *front_of);
+    columns = calloc(COUNT, sizeof *columns);
     fronts = calloc(COUNT, sizeof *fronts);
-    CHECK(starts && rows && front_of && fronts);
+    CHECK(starts && rows && front_of && columns && fronts);
     for (uint32_t i = 0; i <= COUNT; i++)
         starts[i] = i + 1;
     for (uint32_t i = 0; i < COUNT; i++)
@@ -70,6 +71,12 @@ static void make_tasks(void)
     }
 }
 
+/* These two take less memory than the others. */
+static long bytes_of_step(int which)
+{
+    return which == OF_COLUMNS ? 1l << 18 : which == OF_DEGREE ? 1l << 17 : 2l << 20;
+}
+
 static uint32_t call(int which, memplan_fault *fault)
 {
     switch (which) {
@@ -85,6 +92,11 @@ static uint32_t call(int which, memplan_fault *fault)
     case 8: return memplan_core_begin_shared(core, tasks, COUNT, items, COUNT, readers, COUNT - 1, order, COUNT, 3, 1, fault);
     case 9:
         return memplan_plan_shared(tasks, COUNT, items, COUNT, readers, COUNT - 1, readers, 0, 0, order, COUNT, &peak, &second, fault);
+    case 10:
+        return memplan_analyse(1, starts, COUNT + 1, rows, COUNT, order, COUNT, &triangles, fronts, COUNT, &second, front_of, COUNT, columns,
+                               COUNT, fault);
+    case OF_COLUMNS: return memplan_columns(1, order, COUNT, order, COUNT, order, COUNT, columns, COUNT, fault);
+    case OF_DEGREE: return memplan_minimum_degree(0, zeros, FEW + 1, zeros, 0, columns, FEW, fault);
     default: return memplan_core_begin(core, nodes, COUNT, order, COUNT, 3, 1, fault);
     }
 }
@@ -112,9 +124,10 @@ int main(void)
             amounts[0] = 74;
             claims[0].position = 73;
             front_of[0] = front_of[COUNT - 1] = 72;
+            columns[0] = columns[FEW - 1] = columns[COUNT - 1] = 70;
             fronts[0].parent = fronts[COUNT - 1].parent = 71;
             memplan_fault fault = untouched;
-            leave(step * (2l << 20));
+            leave(step * bytes_of_step(which));
             uint32_t status = call(which, &fault);
             leave_all();
             if (status != MEMPLAN_NO_MEMORY)
@@ -123,6 +136,7 @@ int main(void)
             of_call[which]++;
             CHECK(is_fault(fault, MEMPLAN_KIND_NO_MEMORY, 0, 0));
             CHECK(peak == 76 && second == 75 && amounts[0] == 74 && claims[0].position == 73);
+            CHECK(columns[0] == 70 && columns[FEW - 1] == 70 && columns[COUNT - 1] == 70);
             CHECK(front_of[0] == 72 && front_of[COUNT - 1] == 72 && fronts[0].parent == 71 && fronts[COUNT - 1].parent == 71);
             for (uint32_t i = 0; i < COUNT; i++)
                 CHECK(order[i] == i + 1);
@@ -146,6 +160,7 @@ int main(void)
     free(starts);
     free(rows);
     free(front_of);
+    free(columns);
     free(fronts);
     return 0;
 }

@@ -116,36 +116,19 @@ static void make_tree(void)
     }
 }
 
-/* Starts what may start of the activated tasks, and keeps the others; how many it started. */
-static size_t start_ready(memplan_core *core, uint32_t *waiting, size_t *held)
-{
-    size_t kept = 0, begun = 0;
-    for (size_t i = 0; i < *held; i++)
-        if (memplan_core_start(core, waiting[i])) {
-            put(&started, waiting[i]);
-            begun++;
-        } else
-            waiting[kept++] = waiting[i];
-    *held = kept;
-    return begun;
-}
-
 static void run_all(memplan_core *core)
 {
-    uint32_t *waiting = malloc(count * sizeof *waiting);
-    if (!waiting)
-        abort();
-    size_t held = 0, left = count, running = 0;
-    while (left) {
-        for (uint32_t task; (task = memplan_core_activate(core)) != 0;)
-            waiting[held++] = task;
-        running += start_ready(core, waiting, &held);
+    size_t running = 0;
+    for (size_t left = count; left; left--) {
+        while (memplan_core_activate(core))
+            ;
+        for (uint32_t task; (task = memplan_core_next(core)) != 0; running++)
+            if (memplan_core_start(core, task))
+                put(&started, task);
         if (!running || !memplan_core_finish(core, get(&ended)))
             abort(); /* a core does not get stuck, and a task that was started runs */
         running--;
-        left--;
     }
-    free(waiting);
 }
 
 static void *table(size_t length, size_t size)

@@ -121,22 +121,14 @@ static void *work_on(void *given)
 
 static void drive(struct team *team, memplan_core *core, size_t count)
 {
-    uint32_t *waiting = table(count, sizeof *waiting);
-    size_t held = 0;
     for (size_t ended = 0; ended < count; ended++) {
-        for (uint32_t task; (task = memplan_core_activate(core)) != 0;)
-            waiting[held++] = task;
-        size_t kept = 0;
-        for (size_t i = 0; i < held; i++)
-            if (memplan_core_start(core, waiting[i]))
-                give_front(team, waiting[i]);
-            else
-                waiting[kept++] = waiting[i];
-        held = kept;
+        while (memplan_core_activate(core))
+            ;
+        for (uint32_t task; (task = memplan_core_next(core)) != 0 && memplan_core_start(core, task);)
+            give_front(team, task);
         if (!memplan_core_finish(core, next_done(team)))
             fail("a front that does not run was done");
     }
-    free(waiting);
 }
 
 static void run_team(struct factorization *work, const uint32_t *order, uint64_t bound, uint32_t workers)
