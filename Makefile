@@ -15,6 +15,7 @@ VERSION := $(shell sed -n 's/^\#define MEMPLAN_VERSION "\(.*\)"$$/\1/p' c/mempla
 NAME := memplan-$(VERSION)-Linux-x86_64
 SETTLED = here='$(CURDIR)'; . tools/program.sh; find_program
 PYTHON := $(notdir $(wildcard python/memplan/*.py python/memplan/*.html python/memplan/py.typed))
+DASK := $(notdir $(wildcard python/memplan/dask/*.py))
 
 all:
 	bash -uc '$(SETTLED)'
@@ -30,9 +31,10 @@ RUN_FROM = $(abspath $(PYTHONDIR)/../bin $(PYTHONDIR)/../../../bin)
 SONAME := libmemplan.so.$(firstword $(subst ., ,$(VERSION)))
 
 install: all absolute
-	$(INSTALL) -d '$(STAGE)$(bindir)' '$(STAGE)$(PYTHONDIR)/memplan' '$(STAGE)$(mandir)/man1' '$(STAGE)$(BASHDIR)' '$(STAGE)$(ZSHDIR)'
+	$(INSTALL) -d '$(STAGE)$(bindir)' '$(STAGE)$(PYTHONDIR)/memplan/dask' '$(STAGE)$(mandir)/man1' '$(STAGE)$(BASHDIR)' '$(STAGE)$(ZSHDIR)'
 	bash -uc '$(SETTLED); $(INSTALL_PROGRAM) "$$program" "$$0"' '$(STAGE)$(bindir)/memplan'
 	$(INSTALL_DATA) $(PYTHON:%=python/memplan/%) '$(STAGE)$(PYTHONDIR)/memplan/'
+	$(INSTALL_DATA) $(DASK:%=python/memplan/dask/%) '$(STAGE)$(PYTHONDIR)/memplan/dask/'
 	[ -n '$(filter $(LOOKED_IN),$(libdir))' ] || ln -sf "$$(realpath --canonicalize-missing --no-symlinks \
 	    --relative-to='$(PYTHONDIR)/memplan' '$(libdir)/$(SONAME)')" '$(STAGE)$(PYTHONDIR)/memplan/$(SONAME)'
 	[ -n '$(filter $(RUN_FROM),$(bindir))' ] || ln -sf "$$(realpath --canonicalize-missing --no-symlinks \
@@ -45,8 +47,8 @@ install: all absolute
 # What Python has compiled beside the package goes too, and folders of memplan's own where nothing else is in them.
 uninstall: absolute
 	rm -f '$(STAGE)$(mandir)/man1/memplan.1' '$(STAGE)$(BASHDIR)/memplan' '$(STAGE)$(ZSHDIR)/_memplan' '$(STAGE)$(bindir)/memplan'
-	cd '$(STAGE)$(PYTHONDIR)/memplan' 2>/dev/null && rm -rf $(PYTHON) $(SONAME) memplan __pycache__ || true
-	rmdir '$(STAGE)$(PYTHONDIR)/memplan' '$(STAGE)$(PYTHONDIR)' 2>/dev/null || true
+	cd '$(STAGE)$(PYTHONDIR)/memplan' 2>/dev/null && rm -rf $(PYTHON) $(DASK:%=dask/%) $(SONAME) memplan __pycache__ dask/__pycache__ || true
+	rmdir '$(STAGE)$(PYTHONDIR)/memplan/dask' '$(STAGE)$(PYTHONDIR)/memplan' '$(STAGE)$(PYTHONDIR)' 2>/dev/null || true
 	$(MAKE) -C c uninstall DESTDIR='$(STAGE)'
 
 # What pkg-config says is relative to where the tarball is unpacked.

@@ -1,5 +1,5 @@
 #!/usr/bin/env python3
-"""Makes the wheel: memplan with its library and its program inside, and memplan_dask, the runner on Dask.
+"""Makes the wheel: memplan with its library and its program inside, and memplan_dask, the old name of memplan.dask.
 
 usage: make_wheel.py FOLDER [LIBRARY PROGRAM]
 
@@ -21,6 +21,7 @@ from typing import Any, Dict, Iterator, Optional
 HERE = Path(__file__).resolve().parent
 TOP = HERE.parent
 PACKAGES = (HERE / "memplan", TOP / "integrations/dask/memplan_dask")
+SUFFIXES = (".py", ".html", ".typed")
 # No glibc is told of, as by a tag of manylinux: the library needs x86-64-v2 besides, which no tag tells, and may be linked as its maker likes.
 TAG = "py3-none-linux_x86_64"
 
@@ -74,8 +75,10 @@ def contents(version: str, library: Path, program: Path) -> Dict[str, bytes]:
     except ImportError:
         sys.exit("make_wheel.py: a wheel is made by Python 3.11 or later; what it holds runs on older ones too")
     project = tomllib.loads((HERE / "pyproject.toml").read_text(encoding="utf-8"))["project"]
-    taken = [it for package in PACKAGES for it in sorted(package.iterdir()) if it.suffix in (".py", ".html", ".typed")]
-    files = {f"{it.parent.name}/{it.name}": it.read_bytes() for it in taken}
+    files: Dict[str, bytes] = {}
+    for package in PACKAGES:
+        taken = sorted(it for it in package.rglob("*") if it.suffix in SUFFIXES)
+        files.update((it.relative_to(package.parent).as_posix(), it.read_bytes()) for it in taken)
     files[f"memplan/libmemplan.so.{version.split('.')[0]}"] = library.read_bytes()
     files["memplan/memplan"] = program.read_bytes()
     noted = f"memplan-{version}.dist-info"

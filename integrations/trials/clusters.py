@@ -17,7 +17,7 @@ import blocks
 import dask
 from distributed import Client, LocalCluster, TimeoutError
 from harness import eventually
-from memplan_dask import Task
+from memplan.dask import Task
 
 HERE = Path(__file__).resolve().parent
 LOOPBACK = "127.0.0.1"

@@ -27,9 +27,9 @@ import distributed
 import workloads
 from clusters import cluster, digests, records, settled_records
 from distributed import Client, wait
-from memplan.admission import Admission, Graph
-from memplan_dask import Task, run
-from memplan_dask.tasks import graph_of, order_of
+from memplan.admission import Admission, ResultGraph
+from memplan.dask import Task, run
+from memplan.dask.tasks import graph_of, order_of
 
 WORKERS = 4
 FACTORS = (1.0, 1.2, 2.0)
@@ -104,7 +104,7 @@ def measured(client: Client, turns: int, way: Callable[[], Futures]) -> Cell:
 # The simulated run
 
 
-def makespan(load: workloads.Load, graph: Graph, bound: int) -> int:
+def makespan(load: workloads.Load, graph: ResultGraph, bound: int) -> int:
     """Of the tasks on workers of one thread, where nothing but the tasks takes time and memory is free at once."""
     order = order_of(graph)
     ranks = {task: rank for rank, task in enumerate(order)}
@@ -128,7 +128,7 @@ def makespan(load: workloads.Load, graph: Graph, bound: int) -> int:
     return now
 
 
-def simulated(program: Path, load: workloads.Load, graph: Graph, bound: int) -> int:
+def simulated(program: Path, load: workloads.Load, graph: ResultGraph, bound: int) -> int:
     """What `simulate` of the program prints for a tree."""
     with tempfile.TemporaryDirectory() as folder:
         tree, order = Path(folder) / "tree", Path(folder) / "order"

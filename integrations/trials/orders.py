@@ -43,10 +43,10 @@ import dask
 import numpy
 from dask.base import tokenize
 from dask.sizeof import sizeof
-from memplan.admission import Graph
-from memplan_dask import Task, of_collection, run
-from memplan_dask.errors import RunError
-from memplan_dask.tasks import graph_of, order_of_dask
+from memplan.admission import ResultGraph
+from memplan.dask import Task, of_collection, run
+from memplan.dask.errors import RunError
+from memplan.dask.tasks import graph_of, order_of_dask
 
 HEAD = ["collection", "tasks", "along Dask's order", "along memplan's", "gain", "bound", "least", "from nothing", "plan, s"]
 MODULES = {"everyday_arrays": ("ARRAYS",), "everyday_tasks": ("DELAYED", "BAGS"), "everyday_tables": ("FRAMES", "DATASETS")}
@@ -103,7 +103,7 @@ def sized_tasks(make: Collection) -> Tuple[List[Task], Rebuild]:
 # The program
 
 
-def graph_text(graph: Graph) -> str:
+def graph_text(graph: ResultGraph) -> str:
     """The graph as the core has it, as a graph file of version 2."""
     extras, items = graph.system()
     tasks = [f"{extra} 0 1" for extra in extras]
@@ -123,7 +123,7 @@ class Plan(NamedTuple):
 class Trial:
     """A graph in a folder, with Dask's order, and what the program says of them."""
 
-    def __init__(self, program: Path, folder: Path, graph: Graph, effort: Optional[int]) -> None:
+    def __init__(self, program: Path, folder: Path, graph: ResultGraph, effort: Optional[int]) -> None:
         self.program, self.graph_file, self.order_file = program, folder / "graph", folder / "order"
         self.effort = [] if effort is None else ["--effort", str(effort)]
         self.graph_file.write_text(graph_text(graph), encoding="ascii")

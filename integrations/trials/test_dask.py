@@ -31,7 +31,7 @@ from dask.delayed import delayed
 from distributed import Client, Future, LocalCluster
 from harness import raised, run_all
 from memplan import Refused
-from memplan_dask import (
+from memplan.dask import (
     BoundTooLow,
     EngineStopped,
     ResultTooLarge,
@@ -44,7 +44,7 @@ from memplan_dask import (
     run,
     runner,
 )
-from memplan_dask.tasks import graph_of
+from memplan.dask.tasks import graph_of
 from workloads import MB
 
 # Bounds are kept
@@ -335,7 +335,7 @@ def a_lost_worker_ends_the_run() -> None:
         del futures
         top, rest = blocks.top_and_rest(settled_records(client))
         assert rest == 0 and top <= bound
-        assert not any(client.run(lambda: "memplan" in sys.modules or "memplan_dask" in sys.modules).values())
+        assert not any(client.run(lambda: "memplan" in sys.modules).values())
 
 
 def a_closed_client_ends_the_run() -> None:

@@ -13,10 +13,10 @@ import dask.array
 from clusters import cluster
 from harness import run_all
 from memplan import Core
-from memplan.admission import Admission, Graph
+from memplan.admission import Admission, ResultGraph
 
 HERE = Path(__file__).resolve().parent
-PAGES = ("README.md", "integrations/dask/README.md", "integrations/threads/README.md")
+PAGES = ("docs/WORKFLOWS.md", "integrations/dask/README.md", "integrations/threads/README.md")
 
 
 def blocks_of(page: str) -> List[str]:
@@ -38,7 +38,7 @@ def scope_of(client: Any) -> Dict[str, Any]:
     graph = {"inputs": [()], "sizes": [1], "extras": [0], "bound": 1, "order": [0], "waiting": [], "task": 0, "result": 0}
     x = dask.array.ones((8, 8), chunks=4)
     names = ["north", "south"]
-    core = {"Admission": Admission, "Graph": Graph, "Core": Core}
+    core = {"Admission": Admission, "ResultGraph": ResultGraph, "Core": Core}
     return {"client": client, "load": load, "merge": merge, "names": names, "x": x, **graph, **core}
 
 

@@ -18,9 +18,9 @@ from dask.sizeof import sizeof
 from distributed import Client, get_worker
 from distributed.core import Status
 from harness import eventually, raised, run_all
-from memplan_dask import Standstill, Task, least_bound, remote, run
-from memplan_dask.placement import Placement
-from memplan_dask.runner import LEAST_PATIENCE
+from memplan.dask import Standstill, Task, least_bound, remote, run
+from memplan.dask.placement import Placement
+from memplan.dask.runner import LEAST_PATIENCE
 from workloads import MB
 
 # The decisions, without a cluster

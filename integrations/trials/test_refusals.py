@@ -19,7 +19,7 @@ from dask.highlevelgraph import HighLevelGraph, MaterializedLayer
 from distributed import Client, Future
 from harness import raised, run_all
 from memplan import Refused
-from memplan_dask import (
+from memplan.dask import (
     AnnotationRefused,
     ResultTooLarge,
     Standstill,
@@ -33,9 +33,9 @@ from memplan_dask import (
     remote,
     run,
 )
-from memplan_dask.errors import keys_told
-from memplan_dask.inside import unbooked
-from memplan_dask.versions import require_dask, require_scheduler
+from memplan.dask.errors import keys_told
+from memplan.dask.inside import unbooked
+from memplan.dask.versions import require_dask, require_scheduler
 
 KB = 1000
 

@@ -11,8 +11,8 @@ import blocks
 import workloads
 from harness import raised, run_all
 from memplan import Refused
-from memplan.admission import Admission, BoundTooLow, Graph, GraphRefused
-from memplan_threads import Task, graph_of, run
+from memplan.admission import Admission, BoundTooLow, GraphRefused, ResultGraph
+from memplan.threads import Task, graph_of, run
 from workloads import MB
 
 
@@ -57,7 +57,7 @@ def keeps_its_bound(make: Any, factor: float) -> None:
 
 # Two results of 4, which 5 takes with 3 of its own, and whose second one 3 takes too.
 def shared_results_are_held() -> None:
-    graph = Graph(inputs=[(), (), (0, 1), (1, 1)], sizes=[4, 4, 5, 0], extras=[0, 0, 3, 1])
+    graph = ResultGraph(inputs=[(), (), (0, 1), (1, 1)], sizes=[4, 4, 5, 0], extras=[0, 0, 3, 1])
     assert not graph.is_forest and graph.kept == {2, 3}
     assert graph.least_bound([0, 1, 2, 3]) == 4 + 4 + 3 + 5
     assert graph.least_bound([1, 3, 0, 2]) == 4 + 4 + 3 + 5

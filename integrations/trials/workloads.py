@@ -9,7 +9,7 @@ import dask.array
 import memplan
 import numpy
 from blocks import CHUNK, PART, add, gather, read, squeeze, work
-from memplan_dask import Task, of_collection
+from memplan.dask import Task, of_collection
 
 MB = 1_000_000
 

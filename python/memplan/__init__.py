@@ -16,11 +16,27 @@ from array import array
 from pathlib import Path
 from typing import Any, Dict, List, Literal, NamedTuple, NoReturn, Optional, Sequence, SupportsIndex, Tuple, Type, Union
 
-from ._numbers import BOOLS, U32, U64, back, column, columns_of, columns_with_lists, fields_of, for_c, numbers, structures, view, whole
+from ._numbers import (
+    BOOLS,
+    U32,
+    U64,
+    back,
+    column,
+    columns_of,
+    columns_with_lists,
+    fields_of,
+    for_c,
+    numbers,
+    numpy,
+    structures,
+    view,
+    whole,
+)
 from ._types import Array, Matrix, Rows, SharedItems, WholeNumbers
 
 __all__ = [
     "EFFORT",
+    "Analysis",
     "Blockers",
     "Bound",
     "Certificate",
@@ -28,6 +44,7 @@ __all__ = [
     "Core",
     "Fences",
     "FormatError",
+    "FrontRows",
     "Fronts",
     "Gap",
     "Gaps",
@@ -49,10 +66,13 @@ __all__ = [
     "Tree",
     "Workflow",
     "__version__",
+    "analyse",
     "best_postorder",
     "certify",
     "check",
+    "columns",
     "fronts",
+    "minimum_degree",
     "plan",
     "plan_shared",
     "replay",
@@ -154,6 +174,8 @@ _KINDS = {
     70: "more than 50,000 columns are not ordered by minimum degree",
     71: "no shape has this number",
     72: "there is room for fewer nodes than there are fronts",
+    73: "there are not as many fronts of columns as columns",
+    74: "the front of a column is none of those in the order",
 }
 
 
@@ -164,6 +186,12 @@ class Refused(ValueError):
     """A call was refused.
 
     ``status``, ``kind``, ``at`` and ``value`` are those of ``memplan.h``: ``at`` counts from 1, and is 0 where the kind has no place.
+
+    >>> try:
+    ...     plan([2, 3], [1, 1], [0, 0])
+    ... except Refused as refusal:
+    ...     print(refusal, refusal.status, refusal.kind, refusal.at)
+    a parent is no node at 2 3 12 2
     """
 
     def __init__(self, status: int, fault: _Fault) -> None:
@@ -187,8 +215,9 @@ class Certificate(NamedTuple):
 class Fronts(NamedTuple):
     """The tree of the fronts of a matrix, as `plan` and the other calls take it, and the front of each column.
 
-    Nodes are numbered from 1: ``front_of[j]`` is the number of the node whose front has column j, which counts from 0. The columns sorted
-    by their fronts are an order of elimination with these fronts. ``columns`` says how many columns each front has.
+    Nodes are numbered from 1: ``front_of[j]`` is the number of the node whose front has column j, which counts from 0. The columns, in the
+    order in which they were to be eliminated, sorted by their fronts are an order of elimination with these fronts. ``columns`` says how
+    many columns each front has.
     """
 
     parent: Array
@@ -197,6 +226,19 @@ class Fronts(NamedTuple):
     share: Array
     columns: Array
     front_of: Array
+
+
+class Analysis(NamedTuple):
+    """The fronts of a matrix, as in `Fronts`, and in ``order`` its columns, from 0, as the analysis numbers them: along the postorder of the
+    elimination tree. It has the fill of the order that was analysed, and the columns of each front come after those of its children."""
+
+    parent: Array
+    out: Array
+    extra: Array
+    share: Array
+    columns: Array
+    front_of: Array
+    order: Array
 
 
 class SharedItem(NamedTuple):
@@ -221,7 +263,11 @@ class SharedPlan(NamedTuple):
 
     @property
     def is_least(self) -> bool:
-        """Whether the bound shows that no order has a lower peak. Where it does not, the peak may still be least."""
+        """Whether the bound shows that no order has a lower peak. Where it does not, the peak may still be least.
+
+        >>> SharedPlan([1, 2], peak=9, bound=7).is_least
+        False
+        """
         return self.bound == self.peak
 
 
@@ -249,6 +295,9 @@ def _signatures() -> Tuple[Dict[str, _Signature], Dict[str, _Signature]]:
         "check_tree": (u32, nodes + order + [u64] + claims + fault),
         "spill_tree": (u32, nodes + order + [u64, ctypes.POINTER(u64), size] + number + fault),
         "fronts": (u32, [u32] + order + order + order + options + nodes + number + order + fault),
+        "analyse": (u32, [u32] + order + order + order + options + nodes + number + order + order + fault),
+        "minimum_degree": (u32, [u32] + order + order + order + fault),
+        "columns": (u32, [u32] + order + order + order + order + fault),
         "replay_system": (u32, system + order + number + fault),
         "replay_shared": (u32, shared + order + number + fault),
         "plan_shared": (u32, shared + order + [u64] + order + number + number + fault),
@@ -261,6 +310,7 @@ def _signatures() -> Tuple[Dict[str, _Signature], Dict[str, _Signature]]:
         "core_new": (None, core),
         "core_end": (None, core),
         "core_activate": (u32, core),
+        "core_next": (u32, core),
         "core_start": (u32, core + [u32]),
         "core_finish": (u32, core + [u32]),
         "core_is_startable": (u32, core + [u32]),
@@ -321,7 +371,7 @@ def _nodes(parent: WholeNumbers, out: WholeNumbers, extra: WholeNumbers, share: 
 
 def _ones(count: int) -> memoryview:
     """The times of so many tasks, which no call uses."""
-    return memoryview(array(U64.letter, [1]) * count)
+    return memoryview(array(U64.letter, [1]) * count if numpy is None else numpy.broadcast_to(numpy.uint64(1), count))
 
 
 def _answer(status: int, fault: _Fault) -> None:
@@ -345,6 +395,10 @@ def plan(
 
     ``parent`` has the number of each node's parent, 0 at a root; ``out`` what it leaves to its parent; ``extra`` what it needs beside
     that while it runs; ``share`` what it takes over from the blocks of its children.
+
+    >>> order, peak = plan([2, 5, 4, 5, 0], [1, 5, 1, 5, 0], [9, 0, 9, 0, 0])
+    >>> peak, replay([2, 5, 4, 5, 0], [1, 5, 1, 5, 0], [9, 0, 9, 0, 0], order)
+    (11, 11)
     """
     return _order_of(_plans.memplan_plan_tree, parent, out, extra, share)
 
@@ -352,14 +406,23 @@ def plan(
 def best_postorder(
     parent: WholeNumbers, out: WholeNumbers, extra: WholeNumbers, share: Optional[WholeNumbers] = None
 ) -> Tuple[Array, int]:
-    """The best postorder of a tree, and its peak."""
+    """The best postorder of a tree, and its peak.
+
+    >>> order, peak = best_postorder([2, 5, 4, 5, 0], [1, 5, 1, 5, 0], [9, 0, 9, 0, 0])
+    >>> list(map(int, order)), peak
+    ([1, 2, 3, 4, 5], 15)
+    """
     return _order_of(_plans.memplan_best_postorder, parent, out, extra, share)
 
 
 def replay(
     parent: WholeNumbers, out: WholeNumbers, extra: WholeNumbers, order: WholeNumbers, share: Optional[WholeNumbers] = None
 ) -> int:
-    """The peak of an order of a tree; `Refused` with the first place at which it is no traversal."""
+    """The peak of an order of a tree; `Refused` with the first place at which it is no traversal.
+
+    >>> replay([2, 5, 4, 5, 0], [1, 5, 1, 5, 0], [9, 0, 9, 0, 0], [1, 2, 3, 4, 5])
+    15
+    """
     (nodes, count), (places, length) = _nodes(parent, out, extra, share), numbers("order[{}]", order)
     peak, fault = ctypes.c_uint64(), _Fault()
     _answer(_plans.memplan_replay_tree(nodes, count, places, length, ctypes.byref(peak), ctypes.byref(fault)), fault)
@@ -369,7 +432,12 @@ def replay(
 def certify(
     parent: WholeNumbers, out: WholeNumbers, extra: WholeNumbers, share: Optional[WholeNumbers] = None
 ) -> Certificate:
-    """A traversal of least peak with the claims that certify it, which `check` accepts."""
+    """A traversal of least peak with the claims that certify it, which `check` accepts.
+
+    >>> certificate = certify([2, 5, 4, 5, 0], [1, 5, 1, 5, 0], [9, 0, 9, 0, 0])
+    >>> certificate.peak, len(certificate.claims)
+    (11, 4)
+    """
     nodes, count = _nodes(parent, out, extra, share)
     order, peak, written, fault = (ctypes.c_uint32 * max(count, 1))(), ctypes.c_uint64(), ctypes.c_uint64(), _Fault()
     room = count + 1
@@ -396,6 +464,12 @@ def check(
     """Judges a plan of a tree by its claims, whoever made it; `Refused` with the first objection.
 
     All numbers are judged as they stand: one that does not fit is an error, and is not taken for another.
+
+    >>> tree = [2, 5, 4, 5, 0], [1, 5, 1, 5, 0], [9, 0, 9, 0, 0]
+    >>> check(*tree, certify(*tree))
+    >>> check(*tree, certify(*tree)._replace(peak=10))
+    Traceback (most recent call last):
+    memplan.Refused: the order has another peak (11)
     """
     if not isinstance(certificate, Certificate):
         raise TypeError(f"certificate: a {type(certificate).__name__} is no Certificate")
@@ -414,7 +488,12 @@ def spill(
     bound: SupportsIndex,
     share: Optional[WholeNumbers] = None,
 ) -> Tuple[Array, int]:
-    """What has to go to disk where an order of a tree runs within a bound: the amount of each node's block, and all together."""
+    """What has to go to disk where an order of a tree runs within a bound: the amount of each node's block, and all together.
+
+    >>> amounts, volume = spill([2, 5, 4, 5, 0], [1, 5, 1, 5, 0], [9, 0, 9, 0, 0], [1, 2, 3, 4, 5], bound=11)
+    >>> list(map(int, amounts)), volume
+    ([0, 4, 0, 0, 0], 4)
+    """
     (nodes, count), (places, length) = _nodes(parent, out, extra, share), numbers("order[{}]", order)
     limit = whole("bound", bound, U64)
     amounts, volume, fault = (ctypes.c_uint64 * max(count, 1))(), ctypes.c_uint64(), _Fault()
@@ -451,6 +530,43 @@ def _options(shape: str, in_place: bool, zeros: Optional[SupportsIndex]) -> _Fro
     return _FrontOptions(_SHAPES[shape], bool(in_place), zeros is not None, 0 if zeros is None else whole("zeros", zeros, U64))
 
 
+def _of_matrix(
+    call: Any,
+    matrix: Matrix,
+    order: Optional[WholeNumbers],
+    options: _FrontOptions,
+    arrays: int,
+) -> List[Array]:
+    """What a call makes of a matrix: the five fields of its fronts, and so many arrays with a number for each column."""
+    given = _columns(matrix)
+    (starts, ends), (rows, entries) = numbers("indptr[{}]", given[0]), numbers("indices[{}]", given[1])
+    places, length = numbers("order[{}]", () if order is None else order)
+    count = max(ends - 1, 0)
+    if order is not None and length == 0 and count > 0:
+        raise ValueError("order: it has no place")
+    nodes, made, fault = (_Node * max(count, 1))(), ctypes.c_uint64(), _Fault()
+    written = [(ctypes.c_uint32 * max(count, 1))() for _ in range(arrays)]
+    outputs = [argument for array in written for argument in (array, count)]
+    status = call(
+        0,
+        starts,
+        ends,
+        rows,
+        entries,
+        places,
+        length,
+        ctypes.byref(options),
+        nodes,
+        count,
+        ctypes.byref(made),
+        *outputs,
+        ctypes.byref(fault),
+    )
+    _answer(status, fault)
+    fields = [back(view(nodes, made.value, name)) for name in fields_of(_Node)]
+    return fields + [back(view(array, count)) for array in written]
+
+
 def fronts(
     matrix: Matrix,
     order: Optional[WholeNumbers] = None,
@@ -464,34 +580,64 @@ def fronts(
     both. ``order`` has its columns, from 0, in the order in which they are eliminated; with none it is that of minimum degree.
     ``shape`` says what is kept of fronts and blocks, ``"triangle"`` or ``"square"``; ``in_place``, that a front is built over the greatest
     block of its children; ``zeros``, how many explicit zeros a merge of two fronts may add, and with none no fronts are merged.
+
+    >>> made = fronts(([0, 3, 3, 3, 3], [1, 2, 3]))
+    >>> list(map(int, made.parent)), list(map(int, made.front_of))
+    ([3, 3, 0], [3, 1, 2, 3])
     """
-    given, options = _columns(matrix), _options(shape, in_place, zeros)
+    return Fronts(*_of_matrix(_plans.memplan_fronts, matrix, order, _options(shape, in_place, zeros), 1))
+
+
+def analyse(
+    matrix: Matrix,
+    order: Optional[WholeNumbers] = None,
+    shape: Literal["triangle", "square"] = "triangle",
+    in_place: bool = False,
+    zeros: Optional[SupportsIndex] = None,
+) -> Analysis:
+    """The fronts of a matrix, as `fronts` makes them, and its columns in the order in which their analysis numbers them.
+
+    >>> arrow = [0, 3, 3, 3, 3], [1, 2, 3]
+    >>> made = analyse(arrow)
+    >>> [int(column) for column in made.order], [int(front) for front in made.front_of]
+    ([1, 2, 0, 3], [3, 1, 2, 3])
+    """
+    return Analysis(*_of_matrix(_plans.memplan_analyse, matrix, order, _options(shape, in_place, zeros), 2))
+
+
+def minimum_degree(matrix: Matrix) -> Array:
+    """The columns of a sparse symmetric matrix, from 0, in the order of minimum degree, which `fronts` takes where none is given: at each turn
+    one of least degree, and of several the one of least number.
+
+    >>> [int(column) for column in minimum_degree(([0, 3, 3, 3, 3], [1, 2, 3]))]
+    [1, 2, 0, 3]
+    """
+    given = _columns(matrix)
     (starts, ends), (rows, entries) = numbers("indptr[{}]", given[0]), numbers("indices[{}]", given[1])
-    places, length = numbers("order[{}]", () if order is None else order)
     count = max(ends - 1, 0)
-    if order is not None and length == 0 and count > 0:
-        raise ValueError("order: it has no place")
-    nodes, made, fault = (_Node * max(count, 1))(), ctypes.c_uint64(), _Fault()
-    front_of = (ctypes.c_uint32 * max(count, 1))()
-    status = _plans.memplan_fronts(
-        0,
-        starts,
-        ends,
-        rows,
-        entries,
-        places,
-        length,
-        ctypes.byref(options),
-        nodes,
-        count,
-        ctypes.byref(made),
-        front_of,
-        count,
-        ctypes.byref(fault),
-    )
+    found, fault = (ctypes.c_uint32 * max(count, 1))(), _Fault()
+    _answer(_plans.memplan_minimum_degree(0, starts, ends, rows, entries, found, count, ctypes.byref(fault)), fault)
+    return back(view(found, count))
+
+
+def columns(order: WholeNumbers, front_of: WholeNumbers, fronts: WholeNumbers) -> Array:
+    """An order of the fronts as an order of elimination, for a solver: the columns of each front, in the order in which they stand in
+    ``order``, one front after another.
+
+    ``order`` and ``front_of`` are those of `analyse`, and ``fronts`` is an order of its fronts, as `plan` or `best_postorder` gives it. The
+    new order has the same fill, and a solver that postorders the elimination tree makes fronts in a postorder, none of them merged, in just
+    that order.
+
+    >>> made = analyse(([0, 3, 3, 3, 3], [1, 2, 3]))
+    >>> [int(column) for column in columns(made.order, made.front_of, [2, 1, 3])]
+    [2, 1, 0, 3]
+    """
+    (given, count), (of, of_columns) = numbers("order[{}]", order), numbers("front_of[{}]", front_of)
+    places, length = numbers("fronts[{}]", fronts)
+    along, fault = (ctypes.c_uint32 * max(count, 1))(), _Fault()
+    status = _plans.memplan_columns(0, given, count, of, of_columns, places, length, along, count, ctypes.byref(fault))
     _answer(status, fault)
-    parent, out, extra, share, columns = (back(view(nodes, made.value, name)) for name in fields_of(_Node))
-    return Fronts(parent, out, extra, share, columns, back(view(front_of, count)))
+    return back(view(along, count))
 
 
 def _system(tasks: WholeNumbers, items: Rows) -> Tuple[Any, int, Any, int]:
@@ -502,7 +648,11 @@ def _system(tasks: WholeNumbers, items: Rows) -> Tuple[Any, int, Any, int]:
 
 
 def replay_system(tasks: WholeNumbers, items: Rows, order: WholeNumbers) -> int:
-    """The peak of an order of tasks that hand items to each other: the extra of each task, and items (size, from, to), 0 for none."""
+    """The peak of an order of tasks that hand items to each other: the extra of each task, and items (size, from, to), 0 for none.
+
+    >>> replay_system([0, 0, 2, 0], [(6, 0, 1), (3, 1, 2), (4, 1, 3), (2, 2, 4), (5, 3, 4), (1, 4, 0)], [1, 2, 3, 4])
+    13
+    """
     system, (places, length) = _system(tasks, items), numbers("order[{}]", order)
     peak, fault = ctypes.c_uint64(), _Fault()
     _answer(_plans.memplan_replay_system(*system, places, length, ctypes.byref(peak), ctypes.byref(fault)), fault)
@@ -520,7 +670,11 @@ def _shared(tasks: WholeNumbers, items: SharedItems) -> Tuple[Any, int, Any, int
 
 def replay_shared(tasks: WholeNumbers, items: SharedItems, order: WholeNumbers) -> int:
     """The peak of an order of tasks that hand items to each other, each to any number of readers: the extra of each task, and items
-    (size, from, readers), as `SharedItem` is one. An item counts once, until the last of its readers has run."""
+    (size, from, readers), as `SharedItem` is one. An item counts once, until the last of its readers has run.
+
+    >>> replay_shared([6, 1, 0, 0], [(10, 0, [1, 2, 3]), (3, 1, [4]), (4, 2, [4]), (5, 3, [4]), (2, 4, [])], [1, 2, 3, 4])
+    22
+    """
     system, (places, length) = _shared(tasks, items), numbers("order[{}]", order)
     peak, fault = ctypes.c_uint64(), _Fault()
     _answer(_plans.memplan_replay_shared(*system, places, length, ctypes.byref(peak), ctypes.byref(fault)), fault)
@@ -534,8 +688,12 @@ def plan_shared(
 
     Where a series-parallel term tells the orders of the tasks, the peak is least, and the bound is the peak, whatever the effort. Elsewhere
     ``effort`` says how much is searched for an order and a bound: about so many steps for a thousand tasks, some 100 million a second, and
-    more for more tasks. The plan begins
-    with ``start``, if that is given, and its peak is not above that order's; `Refused` with the first place at which that is no traversal.
+    more for more tasks. The plan begins with ``start``, if that is given, and its peak is not above that order's; `Refused` with the first
+    place at which that is no traversal.
+
+    >>> made = plan_shared([6, 1, 0, 0], [(10, 0, [1, 2, 3]), (3, 1, [4]), (4, 2, [4]), (5, 3, [4]), (2, 4, [])])
+    >>> made.peak, made.is_least
+    (22, True)
     """
     system, (places, length) = _shared(tasks, items), numbers("start[{}]", () if start is None else start)
     steps, count = whole("effort", effort, U64), system[1]
@@ -550,7 +708,16 @@ def plan_shared(
 class Core:
     """The activation core: tasks on several workers within a bound on memory.
 
-    >>> core = Core.of_tree(parent, out, extra, order, bound, workers=4)
+    >>> core = Core.of_tree([2, 5, 4, 5, 0], [1, 5, 1, 5, 0], [9, 0, 9, 0, 0], order=[1, 3, 2, 4, 5], bound=20, workers=4)
+    >>> ready = []
+    >>> while task := core.activate():
+    ...     ready.append(task)
+    >>> ready, core.booked
+    ([1, 3], 20)
+    >>> core.start(1), core.start(3), core.used
+    (True, True, 20)
+    >>> core.finish(1), core.is_done(1), core.used
+    (True, True, 11)
 
     Several threads may call one core: its calls keep the interpreter's lock, so that each is made by itself. A core cannot be copied.
     """
@@ -574,7 +741,12 @@ class Core:
         workers: SupportsIndex,
         share: Optional[WholeNumbers] = None,
     ) -> "Core":
-        """A core for a tree, activated in an order; `Refused` where the order is none, or the bound is below its peak."""
+        """A core for a tree, activated in an order; `Refused` where the order is none, or the bound is below its peak.
+
+        >>> Core.of_tree([0], [4], [2], order=[1], bound=5, workers=1)
+        Traceback (most recent call last):
+        memplan.Refused: the bound is below the peak of the order (6)
+        """
         return cls._begun(_plans.memplan_core_begin, _nodes(parent, out, extra, share), order, bound, workers)
 
     @classmethod
@@ -586,7 +758,11 @@ class Core:
         bound: SupportsIndex,
         workers: SupportsIndex,
     ) -> "Core":
-        """A core for tasks that hand items to each other, as in `replay_system`."""
+        """A core for tasks that hand items to each other, as in `replay_system`.
+
+        >>> Core.of_system([2], [(3, 0, 1)], order=[1], bound=5, workers=1).used
+        3
+        """
         return cls._begun(_plans.memplan_core_begin_system, _system(tasks, items), order, bound, workers)
 
     @classmethod
@@ -598,7 +774,11 @@ class Core:
         bound: SupportsIndex,
         workers: SupportsIndex,
     ) -> "Core":
-        """A core for tasks that hand items to each other, each to any number of readers, as in `replay_shared`."""
+        """A core for tasks that hand items to each other, each to any number of readers, as in `replay_shared`.
+
+        >>> Core.of_shared([0, 0], [(3, 0, [1, 2])], order=[1, 2], bound=3, workers=2).used
+        3
+        """
         return cls._begun(_plans.memplan_core_begin_shared, _shared(tasks, items), order, bound, workers)
 
     @classmethod
@@ -610,33 +790,70 @@ class Core:
         return core
 
     def activate(self) -> int:
-        """Activates the next task of the order, where its need fits: its number, or 0."""
+        """Activates the next task of the order, where its need fits: its number, or 0.
+
+        >>> core = Core.of_tree([0, 0], [4, 4], [2, 2], order=[2, 1], bound=10, workers=2)
+        >>> core.activate(), core.activate()
+        (2, 0)
+        """
         return int(_steps.memplan_core_activate(self._at))
 
+    def next(self) -> int:
+        """Of the tasks that may start now the one that stands first in the order: its number, or 0. Constant time; it changes nothing."""
+        return int(_steps.memplan_core_next(self._at))
+
     def start(self, task: SupportsIndex) -> bool:
-        """Starts a task, where it may start."""
+        """Starts a task, where it may start.
+
+        >>> core = Core.of_tree([0], [4], [2], order=[1], bound=6, workers=1)
+        >>> core.start(1), core.activate(), core.start(1)
+        (False, 1, True)
+        """
         return bool(_steps.memplan_core_start(self._at, whole("task", task, U32)) == 1)
 
     def finish(self, task: SupportsIndex) -> bool:
-        """Ends a task, where it runs."""
+        """Ends a task, where it runs.
+
+        >>> core = Core.of_tree([0], [4], [2], order=[1], bound=6, workers=1)
+        >>> core.finish(1), core.activate(), core.start(1), core.finish(1)
+        (False, 1, True, True)
+        """
         return bool(_steps.memplan_core_finish(self._at, whole("task", task, U32)) == 1)
 
     def is_startable(self, task: SupportsIndex) -> bool:
-        """Whether `start` would answer yes."""
+        """Whether `start` would answer yes.
+
+        >>> core = Core.of_tree([0], [4], [2], order=[1], bound=6, workers=1)
+        >>> core.is_startable(1), core.activate(), core.is_startable(1)
+        (False, 1, True)
+        """
         return bool(_steps.memplan_core_is_startable(self._at, whole("task", task, U32)) == 1)
 
     def is_done(self, task: SupportsIndex) -> bool:
-        """Whether a task is done."""
+        """Whether a task is done.
+
+        >>> Core.of_tree([0], [4], [2], order=[1], bound=6, workers=1).is_done(1)
+        False
+        """
         return bool(_steps.memplan_core_is_done(self._at, whole("task", task, U32)) == 1)
 
     @property
     def used(self) -> int:
-        """The items that are present, and the needs of the running tasks."""
+        """The items that are present, and the needs of the running tasks.
+
+        >>> Core.of_system([2], [(3, 0, 1)], order=[1], bound=5, workers=1).used
+        3
+        """
         return int(_steps.memplan_core_used(self._at))
 
     @property
     def booked(self) -> int:
-        """The items that are present, and the needs of the activated tasks that are not done."""
+        """The items that are present, and the needs of the activated tasks that are not done.
+
+        >>> core = Core.of_system([2], [(3, 0, 1)], order=[1], bound=5, workers=1)
+        >>> core.activate(), core.booked
+        (1, 5)
+        """
         return int(_steps.memplan_core_booked(self._at))
 
     def __reduce_ex__(self, protocol: Any) -> NoReturn:
@@ -658,6 +875,7 @@ from .results import (  # noqa: E402
     Bound,
     Claims,
     Fences,
+    FrontRows,
     Gap,
     Gaps,
     Item,

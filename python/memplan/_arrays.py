@@ -25,12 +25,11 @@ def kept(name: str, values: Any, width: Width = SIZE) -> Array:
 
 def frozen(values: Any) -> Array:
     """Numbers that were looked at already."""
-    made: Any = values.tolist() if isinstance(values, memoryview) else values
-    if numpy is not None:
-        made = numpy.array(values, "int64")
-        made.flags.writeable = False
-    array: Array = made
-    return array
+    if numpy is None:
+        return values.tolist() if isinstance(values, memoryview) else values  # type: ignore[no-any-return]
+    made: Array = numpy.asarray(values).astype("int64")
+    made.flags.writeable = False
+    return made
 
 
 def listed(values: Any) -> List[int]:
@@ -40,7 +39,10 @@ def listed(values: Any) -> List[int]:
 
 
 def repeated(value: int, count: int) -> Array:
-    return frozen([value] * count if numpy is None else numpy.full(count, value, "int64"))
+    """The same number so often; with numpy in one place."""
+    if numpy is None:
+        return frozen([value] * count)
+    return numpy.broadcast_to(numpy.int64(value), count)  # type: ignore[no-any-return]
 
 
 def shifted(values: Any, by: int) -> Array:

@@ -5,9 +5,9 @@ from __future__ import annotations
 import ctypes
 from typing import Any, NamedTuple, Sequence, Tuple
 
-from . import _CLAIM_ROOM, _USAGE, _answer, _Claim, _Fault, _Node, _plans, _SharedItem, _Task
+from . import _answer, _Claim, _Fault, _Node, _plans, _SharedItem, _Task
 from ._arrays import frozen
-from ._numbers import I64, U32, U64, column, fields_of, for_c, structures, view
+from ._numbers import I64, U32, U64, column, fields_of, for_c, room, structures, view
 from ._types import Array
 from .results import Claims
 
@@ -43,7 +43,7 @@ def system_of(
 
 
 def _order_of(call: Any, nodes: Nodes) -> Tuple[Array, int]:
-    order, peak, fault = (ctypes.c_uint32 * max(nodes.length, 1))(), ctypes.c_uint64(), _Fault()
+    order, peak, fault = room(ctypes.c_uint32, nodes.length), ctypes.c_uint64(), _Fault()
     _answer(call(*nodes, order, nodes.length, ctypes.byref(peak), ctypes.byref(fault)), fault)
     return frozen(view(order, nodes.length)), peak.value
 
@@ -57,16 +57,11 @@ def best_postorder(nodes: Nodes) -> Tuple[Array, int]:
 
 
 def certify_tree(nodes: Nodes) -> Tuple[Array, int, Claims]:
-    order, peak, written, fault = (ctypes.c_uint32 * max(nodes.length, 1))(), ctypes.c_uint64(), ctypes.c_uint64(), _Fault()
-    room = nodes.length + 1
-    while True:
-        claims = (_Claim * room)()
-        told = ctypes.byref(peak), claims, room, ctypes.byref(written), ctypes.byref(fault)
-        status = _plans.memplan_certify_tree(*nodes, order, nodes.length, *told)
-        if status != _USAGE or fault.kind != _CLAIM_ROOM:
-            break
-        room = fault.value  # is enough
-    _answer(status, fault)
+    order, peak, written, fault = room(ctypes.c_uint32, nodes.length), ctypes.c_uint64(), ctypes.c_uint64(), _Fault()
+    most = 3 * nodes.length + 1  # is always enough
+    claims = room(_Claim, most)
+    told = ctypes.byref(peak), claims, most, ctypes.byref(written), ctypes.byref(fault)
+    _answer(_plans.memplan_certify_tree(*nodes, order, nodes.length, *told), fault)
     columns = [frozen(view(claims, written.value, name)) for name in fields_of(_Claim)]
     return frozen(view(order, nodes.length)), peak.value, Claims(*columns)
 
@@ -88,7 +83,7 @@ def replay_tree(nodes: Nodes, order: memoryview) -> int:
 
 
 def spill_tree(nodes: Nodes, order: memoryview, bound: int) -> Tuple[Array, int]:
-    amounts, volume, fault = (ctypes.c_uint64 * max(nodes.length, 1))(), ctypes.c_uint64(), _Fault()
+    amounts, volume, fault = room(ctypes.c_uint64, nodes.length), ctypes.c_uint64(), _Fault()
     told = bound, amounts, nodes.length, ctypes.byref(volume), ctypes.byref(fault)
     _answer(_plans.memplan_spill_tree(*nodes, *for_c(order), *told), fault)
     return frozen(view(amounts, nodes.length)), volume.value
@@ -101,7 +96,7 @@ def replay_shared(system: System, order: memoryview) -> int:
 
 
 def plan_shared(system: System, start: memoryview, effort: int) -> Tuple[Array, int, int]:
-    order, peak, bound, fault = (ctypes.c_uint32 * max(system.length, 1))(), ctypes.c_uint64(), ctypes.c_uint64(), _Fault()
+    order, peak, bound, fault = room(ctypes.c_uint32, system.length), ctypes.c_uint64(), ctypes.c_uint64(), _Fault()
     found = ctypes.byref(peak), ctypes.byref(bound), ctypes.byref(fault)
     _answer(_plans.memplan_plan_shared(*system, *for_c(start), effort, order, system.length, *found), fault)
     return frozen(view(order, system.length)), peak.value, bound.value

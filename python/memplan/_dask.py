@@ -1,4 +1,4 @@
-"""Graphs of Dask, which is asked for only where one is read: plain graphs, and collections as `memplan_dask` reads them for its runs."""
+"""Graphs of Dask, which is asked for only where one is read: plain graphs, and collections as `memplan.dask` reads them for its runs."""
 
 from __future__ import annotations
 
@@ -15,7 +15,7 @@ Sizes = Union[Mapping[Any, Any], Callable[[Any], Any]]
 
 
 class Collection(NamedTuple):
-    """The keys of the tasks, their extras, and the items, as `Graph.system` of `memplan.admission` tells them."""
+    """The keys of the tasks, their extras, and the items, as `ResultGraph.system` of `memplan.admission` tells them."""
 
     keys: List[Hashable]
     extras: List[int]
@@ -46,9 +46,9 @@ def inputs_of(graph: Mapping[Any, Any]) -> Dict[Any, List[Any]]:
 def read_collection(collection: Any, sizes: Sizes) -> Collection:
     """Optimized, as Dask would run it; the results that the collection is made of stay to the end."""
     try:
-        reader: Any = import_module("memplan_dask.tasks")
+        reader: Any = import_module("memplan.dask.tasks")
     except ModuleNotFoundError as lack:
-        told = "collections of Dask are read by memplan_dask, which a wheel has, with distributed: pip install 'memplan[dask]'"
+        told = "collections of Dask are read by memplan.dask, with distributed: pip install 'memplan[dask]'"
         raise ImportError(f"{told} ({lack})") from lack
     tasks, _ = reader.of_collection(collection, lambda key: told_of(sizes, key))
     extras, items = reader.graph_of(tasks, 0).system()

@@ -107,6 +107,11 @@ NOTHING: Mapping[Any, SupportsIndex] = MappingProxyType({})
 """What a mapping of numbers is where none is given."""
 
 
+def columns_of(naming: Naming, **told: Tuple[Mapping[Any, Any], Optional[int]]) -> Dict[str, Any]:
+    """The columns of mappings, each with its default, by their names."""
+    return {what: places(naming, values, what, default) for what, (values, default) in told.items()}
+
+
 def places(naming: Naming, values: Mapping[Any, Any], what: str, default: Optional[int]) -> List[int]:
     """The number that a mapping has for each task; one that it lacks is the default, and is refused where there is none."""
     if not isinstance(values, Mapping):

@@ -120,7 +120,7 @@ def claims_on(tree: Tree, claims: Claims) -> List[List[int]]:
 
 
 def positions_of(parent: Array) -> Tuple[List[int], List[int]]:
-    """The node of each position of the tree's term, and what of it the part is that ends there: FORMATS says under 'Claims' which are."""
+    """The node of each position of the tree's term, and what of it the part is that ends there: PLANS says under 'Claims' which are."""
     count = len(parent)
     children: List[List[int]] = [[] for _ in range(count + 1)]
     for node, above in enumerate(parent.tolist(), 1):

@@ -353,6 +353,17 @@ def workflow_text(workflow: WorkflowText, version: int) -> str:
     return joined([head], map(line, workflow.positions), ["end\n"], lines_of_names(workflow.names))
 
 
+# Matrices
+
+
+def matrix_text(starts: List[int], rows: List[int]) -> str:
+    """The pattern of columns that are told by where their entries start, and by the rows of these, which count from 0."""
+    count = len(starts) - 1
+    head = f"%%MatrixMarket matrix coordinate pattern general\n{count} {count} {len(rows)}\n"
+    columns = (column for column, (start, end) in enumerate(zip(starts, starts[1:]), 1) for _ in range(start, end))
+    return joined([head], map("%d %d\n".__mod__, zip((row + 1 for row in rows), columns)))
+
+
 # Orders
 
 

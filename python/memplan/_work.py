@@ -214,6 +214,14 @@ class Work:
         except Refused as it:
             raise told_by_library(it.status, it.kind, it.at, it.value, self.naming, order) from None
 
+    def _judged_by(self, replay: Callable[..., int], tasks: Any) -> None:
+        """The replay of no order is refused at its first place, where nothing else is."""
+        try:
+            self._asked(replay, tasks, memoryview(b"").cast("I"))
+        except TaskRefused as refusal:
+            if refusal.reason != "missing":
+                raise
+
     def _run(
         self,
         command: str,
@@ -226,12 +234,16 @@ class Work:
         texts = {self._option: self._input().encode()}
         if order is not None:
             texts["--order"] = order_text(order).encode()
-        ended = run(command, {**texts, **(files or {})}, words)
+        told = judged if order is None else order
+        return self._report(command, {**texts, **(files or {})}, words, () if told is None else told.tolist())
+
+    def _report(self, command: str, files: Mapping[str, bytes], words: Sequence[str], order: Sequence[int] = ()) -> Page:
+        """The same over texts, each told by its option; ``order`` is one that is judged."""
+        ended = run(command, files, words)
         if ended.status == _USAGE and "--workers" in words:
             raise told_of_workers()
         if ended.status:
-            told = judged if order is None else order
-            self._refuse(ended.status, ended.report, () if told is None else told.tolist())
+            self._refuse(ended.status, ended.report, order)
         return Page(ended.report, command)
 
     def _refuse(self, status: int, report: bytes, order: Sequence[int]) -> NoReturn:

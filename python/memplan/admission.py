@@ -19,7 +19,7 @@ from . import Core, Refused, SharedItem, plan, plan_shared, replay_shared
 from ._numbers import U32, U64, column, whole
 from ._types import WholeNumbers
 
-__all__ = ["EFFORT_OF_A_RUN", "MOST_RUNNING", "Admission", "BoundTooLow", "Graph", "GraphRefused"]
+__all__ = ["EFFORT_OF_A_RUN", "MOST_RUNNING", "Admission", "BoundTooLow", "Graph", "GraphRefused", "ResultGraph"]
 
 MOST_RUNNING = 4096
 """How many tasks may run at once: as many as a core has workers."""
@@ -103,12 +103,16 @@ def _inputs_of(inputs: Sequence[Collection[int]]) -> List[Tuple[int, ...]]:
     return [tuple(dict.fromkeys(islice(left, len(consumed)))) for consumed in inputs]
 
 
-class Graph:
+class ResultGraph:
     """Tasks, numbered from 0 as they stand, that leave one result each.
 
     ``inputs`` has for each task those whose results it consumes; ``sizes`` what each result takes; ``extras`` what each task needs beside
     that and its inputs while it runs. The results of the tasks in ``kept``, and those that no task consumes, stay to the end.
     `GraphRefused` where tasks wait for each other.
+
+    >>> graph = ResultGraph([(), (0,), (0,), (1, 2)], sizes=[10, 1, 10, 2], extras=[0, 0, 0, 0])
+    >>> graph.least_bound([0, 2, 1, 3]), graph.is_forest
+    (21, False)
     """
 
     def __init__(
@@ -164,7 +168,11 @@ class Graph:
         return all(len(users) + (task in self.kept) == 1 for task, users in enumerate(self.consumers))
 
     def planned(self) -> List[int]:
-        """An order of least peak of a forest."""
+        """An order of least peak of a forest.
+
+        >>> ResultGraph([(), (), (0, 1)], sizes=[3, 4, 1], extras=[0, 9, 0]).planned()
+        [1, 0, 2]
+        """
         if not self.is_forest:
             raise ValueError("a result has several consumers: take planned_from, or give an order")
         try:
@@ -174,8 +182,13 @@ class Graph:
         return [int(task) - 1 for task in order]
 
     def planned_from(self, start: WholeNumbers, effort: SupportsIndex = EFFORT_OF_A_RUN) -> List[int]:
-        """An order of any graph whose peak is not above that of the order ``start``: of least peak where `memplan.plan_shared` has one, else
-        the best that it finds with so much effort."""
+        """An order of any graph whose peak is not above that of the order ``start``: of least peak where `memplan.plan_shared` has one,
+        else the best that it finds with so much effort.
+
+        >>> graph = ResultGraph([(), (0,), (0,), (1, 2)], sizes=[10, 1, 10, 2], extras=[0, 0, 0, 0])
+        >>> graph.planned_from([0, 2, 1, 3])
+        [0, 1, 2, 3]
+        """
         numbered = self.numbered(start)
         if not numbered:
             self.least_bound(start)  # refused, but where there is no task
@@ -187,7 +200,11 @@ class Graph:
         return [int(task) - 1 for task in found.order]
 
     def least_bound(self, order: WholeNumbers) -> int:
-        """The peak of an order, which is the least bound along it."""
+        """The peak of an order, which is the least bound along it.
+
+        >>> ResultGraph([(), (0,)], sizes=[10, 1], extras=[0, 2]).least_bound([0, 1])
+        13
+        """
         tasks, items = self.system()
         try:
             return replay_shared(tasks, items, self.numbered(order))
@@ -227,13 +244,28 @@ class Graph:
         return GraphRefused((refusal.status, kind), words, None if kind == 20 else task, place)
 
 
+Graph = ResultGraph
+"""The name that it had before: `memplan.Graph` is another one, whose tasks hand on any number of items."""
+
+
 class Admission:
     """The tasks of a graph within a bound, along an order; without one, along the plan of a forest. Calls are made one at a time.
+
+    >>> runs = Admission(ResultGraph([(), (0,)], sizes=[10, 1], extras=[0, 2]), bound=13)
+    >>> runs.ready(), runs.start(0), runs.used
+    ([0], True, 10)
+    >>> runs.done(0)
+    >>> runs.ready(), runs.start(1), runs.spent(1), runs.used
+    ([1], True, [0], 13)
+    >>> runs.done(1)
+    >>> runs.gone(0)
+    >>> runs.left, runs.used
+    (0, 1)
 
     `BoundTooLow` where the order's peak is above the bound; `GraphRefused` where the order is none, or a limit is passed.
     """
 
-    def __init__(self, graph: Graph, bound: SupportsIndex, order: Optional[WholeNumbers] = None) -> None:
+    def __init__(self, graph: ResultGraph, bound: SupportsIndex, order: Optional[WholeNumbers] = None) -> None:
         self._graph = graph
         self._tasks = len(graph.sizes)
         extras, items = graph.system()

@@ -8,10 +8,9 @@ from typing import Any, Dict, Hashable, Iterable, List, Mapping, Optional, Seque
 from . import EFFORT, _calls
 from ._arrays import frozen, kept, listed, optional, shifted, sums
 from ._dask import Sizes, inputs_of, is_plain, read_collection, told_of
-from ._naming import NOTHING, Naming, places
+from ._naming import NOTHING, Naming, columns_of, places
 from ._networks import attributes_of, edges_of, nodes_of
 from ._numbers import U32, U64, Width, _together, _turned, whole
-from ._refusals import TaskRefused
 from ._texts import GraphText, PathLike, graph_text, read_bound, read_bytes, read_graph, read_plan
 from ._types import Array, Axes, WholeNumbers
 from ._work import Ordered, Work
@@ -217,14 +216,14 @@ class Graph(Work):
         return cls._of_items(naming, items, *told)
 
     @classmethod
-    def from_dask(cls, collection: Any, sizes: Sizes, time: Mapping[Any, SupportsIndex] = NOTHING) -> "Graph":
-        """Of a Dask collection, or several in a list, a tuple or a dict, which are optimized first, as Dask would run them; or of a plain Dask
-        graph, a mapping from keys to tasks, as it is. The keys are the names. ``sizes``, a mapping or a function of keys, has for each the
-        size of its result, or that and the extra of its task. The results that the collection is made of stay to the end, and in a plain
-        graph those that no task reads. Times are 1 where none are told.
+    def of_dask(cls, collection: Any, sizes: Sizes, time: Mapping[Any, SupportsIndex] = NOTHING) -> "Graph":
+        """Of a Dask collection, or several in a list, a tuple or a dict, which are optimized first, as Dask would run them; or of a plain
+        Dask graph, a mapping from keys to tasks, as it is. The keys are the names. ``sizes``, a mapping or a function of keys, has for
+        each the size of its result, or that and the extra of its task. The results that the collection is made of stay to the end, and in
+        a plain graph those that no task reads. Times are 1 where none are told.
 
         >>> tasks = {"load": (range, 9), "count": (len, "load"), "sort": (sorted, "load"), "merge": (max, "count", "sort")}
-        >>> plan = Graph.from_dask(tasks, sizes={"load": 10, "count": 1, "sort": (10, 5), "merge": 2}).plan()
+        >>> plan = Graph.of_dask(tasks, sizes={"load": 10, "count": 1, "sort": (10, 5), "merge": 2}).plan()
         >>> plan.order, plan.peak
         (['load', 'sort', 'count', 'merge'], 25)
         """
@@ -234,8 +233,17 @@ class Graph(Work):
             size, extra = ({key: pair[at] for key, pair in told.items()} for at in range(2))
             return cls.of_mapping(inputs, size, extra, time=time)
         read = read_collection(collection, sizes)
-        times = places(Naming.of(len(read.keys), 1, read.keys), time, "time", 1)
-        return cls(read.extras, read.items, time=times, names=read.keys)
+        columns = columns_of(Naming.of(len(read.keys), 1, read.keys), time=(time, 1))
+        return cls(read.extras, read.items, **columns, names=read.keys)
+
+    @classmethod
+    def from_dask(cls, collection: Any, sizes: Sizes, time: Mapping[Any, SupportsIndex] = NOTHING) -> "Graph":
+        """The name that `of_dask` had before.
+
+        >>> Graph.from_dask({"load": (range, 9)}, sizes={"load": 10}).names
+        ['load']
+        """
+        return cls.of_dask(collection, sizes, time)
 
     @classmethod
     def _of_items(
@@ -246,8 +254,7 @@ class Graph(Work):
         share: Mapping[Any, SupportsIndex],
         time: Mapping[Any, SupportsIndex],
     ) -> "Graph":
-        told = {"extra": (extra, 0), "share": (share, 0), "time": (time, 1)}
-        columns: Dict[str, Any] = {what: places(naming, values, what, default) for what, (values, default) in told.items()}
+        columns = columns_of(naming, extra=(extra, 0), share=(share, 0), time=(time, 1))
         return cls(items=items, **columns, names=naming.names)
 
     @classmethod
@@ -423,9 +430,4 @@ class Graph(Work):
         return _calls.system_of(self.extra, self.share, self.time, self.size, self.producer, counts, self.readers)
 
     def _judge(self) -> None:
-        """The replay of no order is refused at its first place, where nothing else is."""
-        try:
-            self._asked(_calls.replay_shared, self._system(), memoryview(b"").cast("I"))
-        except TaskRefused as refusal:
-            if refusal.reason != "missing":
-                raise
+        self._judged_by(_calls.replay_shared, self._system())

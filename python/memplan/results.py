@@ -23,6 +23,7 @@ __all__ = [
     "Claims",
     "Evidence",
     "Fences",
+    "FrontRows",
     "Gap",
     "Gaps",
     "Item",
@@ -50,7 +51,7 @@ class Item(NamedTuple):
 
 
 class Claims(NamedTuple):
-    """Evidence: columns of claims, on positions of the term, which count from 1; FORMATS says under 'Claims' what a claim says."""
+    """Evidence: columns of claims, on positions of the term, which count from 1; PLANS says under 'Claims' what a claim says."""
 
     position: Array
     backward: Array
@@ -301,6 +302,14 @@ class Gaps(NamedTuple):
 
     volume: int
     gaps: List[Gap]
+
+
+class FrontRows(NamedTuple):
+    """The rows of each front of a matrix, the fronts that were made at once, round by round, and the most rows that were held at once."""
+
+    rows: List[Array]
+    rounds: List[Tasks]
+    used: int
 
 
 class Stairs(NamedTuple):

@@ -5,16 +5,15 @@ from __future__ import annotations
 from dataclasses import dataclass
 from typing import Any, Dict, Hashable, List, Literal, Mapping, Optional, Sequence, SupportsIndex, Tuple, Union
 
-from . import _calls, fronts
+from . import _calls, _columns, fronts
 from ._arrays import frozen, kept, listed, optional, shifted
-from ._naming import NOTHING, Naming, places
+from ._naming import NOTHING, Naming, columns_of
 from ._networks import attributes_of, nodes_of
-from ._numbers import I64, U32, U64, Width, numpy, whole
-from ._refusals import TaskRefused
-from ._texts import Page, PathLike, TreeText, read_bytes, read_tree, tree_text
+from ._numbers import I64, U32, U64, Width, column, numpy, whole
+from ._texts import Page, PathLike, TreeText, matrix_text, order_text, read_bytes, read_tree, tree_text
 from ._types import Array, Axes, Matrix, Tasks, WholeNumbers
 from ._work import Ordered, Work
-from .results import Claims, Plan, Segments, Spill, Stairs, kept_with
+from .results import Claims, FrontRows, Plan, Segments, Spill, Stairs, kept_with
 
 _PARENTS = (Width(I64.letter, -1, U32.most - 1, "32 bits"), U32)  # of nodes that count from 0, and from 1
 
@@ -26,7 +25,8 @@ class Tree(Work):
     The columns are arrays of int64 that nobody writes to, or lists where there is no numpy: ``parent``, which counts from 1 whatever the
     tasks are called, and is 0 at a root; ``out``, what a task leaves; ``extra``, what it needs beside that while it runs; ``share``, what
     it takes over from the blocks of its children; ``time``, how long it runs. ``front_of`` has the number of the front of each column of a
-    matrix.
+    matrix; ``ranks`` the place of each in the order that the fronts come of, which counts within each front; and ``pattern`` the columns as
+    they were given, where they start and the rows of their entries.
 
     >>> tree = Tree([1, -1], out=[4, 0], extra=[2, 9], base=0)
     >>> tree.plan().peak, tree.names
@@ -40,6 +40,8 @@ class Tree(Work):
     time: Array
     naming: Naming
     front_of: Optional[Array]
+    pattern: Optional[Tuple[Array, Array]]
+    ranks: Optional[Array]
 
     _option = "--tree"
     _plan_version = 1
@@ -55,6 +57,8 @@ class Tree(Work):
         base: SupportsIndex = 1,
         names: Optional[Sequence[Hashable]] = None,
         front_of: Optional[WholeNumbers] = None,
+        pattern: Optional[Tuple[WholeNumbers, WholeNumbers]] = None,
+        ranks: Optional[WholeNumbers] = None,
     ) -> None:
         """Parents are numbers from ``base``, 1 or 0, and one less, 0 or -1, is the parent of a root. So are tasks called where they have no
         ``names``. Without them shares are 0, and times 1."""
@@ -69,6 +73,9 @@ class Tree(Work):
             object.__setattr__(self, name, values)
         object.__setattr__(self, "naming", Naming.of(count, base, names))
         object.__setattr__(self, "front_of", None if front_of is None else kept("front_of", front_of, U32))
+        entries = None if pattern is None else (kept("indptr", pattern[0], U32), kept("indices", pattern[1], U32))
+        object.__setattr__(self, "pattern", entries)
+        object.__setattr__(self, "ranks", None if ranks is None else kept("ranks", ranks, U32))
 
     @classmethod
     def of_mapping(
@@ -88,8 +95,7 @@ class Tree(Work):
         """
         naming = Naming.of(len(parents), 1, list(parents))
         above = [0 if it is None else naming.known(f"parents[{name!r}]", it) for name, it in parents.items()]
-        told = {"out": (out, None), "extra": (extra, 0), "share": (share, 0), "time": (time, 1)}
-        columns: Dict[str, Any] = {what: places(naming, values, what, default) for what, (values, default) in told.items()}
+        columns = columns_of(naming, out=(out, None), extra=(extra, 0), share=(share, 0), time=(time, 1))
         return cls(above, **columns, names=naming.names)
 
     @classmethod
@@ -130,10 +136,15 @@ class Tree(Work):
         >>> len(tree), tree.plan().peak, [list(map(int, columns)) for columns in tree.columns()]
         (3, 5, [[1], [2], [0, 3]])
         """
-        made = fronts(matrix, order, shape, in_place, zeros)
+        pattern = _columns(matrix)
+        made = fronts(pattern, order, shape, in_place, zeros)
         first = Naming.of(0, base).base
-        parents = shifted(made.parent, first - 1)
-        return cls(parents, made.out, made.extra, made.share, made.columns, base=first, front_of=made.front_of)
+        parents, told = shifted(made.parent, first - 1), (made.out, made.extra, made.share, made.columns)
+        if order is not None:
+            ranks: Any = inverse(column("order[{}]", order, U32).tolist())
+        else:  # in a front of minimum degree it does not matter which column comes first, but in those that were merged
+            ranks = None if zeros is None else fronts(pattern).front_of
+        return cls(parents, *told, base=first, front_of=made.front_of, pattern=pattern, ranks=ranks)
 
     @classmethod
     def of_text(cls, text: Union[str, bytes]) -> "Tree":
@@ -241,7 +252,7 @@ class Tree(Work):
     # Matrices
 
     def columns(self) -> List[Array]:
-        """The columns of each front of a matrix, from 0.
+        """The columns of each front of a matrix, from 0, in the order in which they are eliminated.
 
         >>> Tree([0], [1], [2]).columns()
         Traceback (most recent call last):
@@ -268,15 +279,43 @@ class Tree(Work):
         self._asked(_calls.replay_tree, self._nodes(), numbers, order=numbers)
         return frozen(self._sorted(numbers.tolist()))
 
+    def fronts(self, bound: Optional[SupportsIndex] = None, workers: SupportsIndex = 1) -> FrontRows:
+        """The rows of each front of a matrix whose fronts were not merged: its own columns, and those to which they are joined and which
+        come later, in the order of their elimination, as numbers of the matrix, from 0. They are made in rounds, on so many threads,
+        where at most ``bound`` rows are held at once; refused where that is too few for the fronts one after the other.
+
+        >>> made = Tree.of_matrix(([0, 3, 3, 3, 3], [1, 2, 3])).fronts(bound=4, workers=2)
+        >>> [list(map(int, rows)) for rows in made.rows]
+        [[1, 0], [2, 0], [0, 3]]
+        >>> [list(map(int, fronts)) for fronts in made.rounds], made.used
+        ([[1, 2], [3]], 4)
+        """
+        columns = self.columns()
+        if self.pattern is None:
+            raise ValueError("the tree has no pattern of its matrix")
+        places = listed(self._sorted(list(range(1, len(self) + 1))))
+        order = order_text(place + 1 for place in places).encode()
+        files = {"--matrix": matrix_text(*map(listed, self.pattern)).encode(), "--perm": order}
+        limits = self._limits(U64.most if bound is None else bound, whole("workers", workers, U32))
+        page = self._report("fronts", files, limits)
+        found, rounds, used = (page.section(word) for word in (b"fronts", b"rounds", b"used"))
+        made = [self.naming.told(list(map(int, row))) for row in page.rows(rounds)]
+        page.at += rounds
+        rows = [frozen([places[int(place) - 1] for place in row]) for row in page.rows(found)]
+        if found != len(self) or any(listed(own) != listed(all_[: len(own)]) for own, all_ in zip(columns, rows)):
+            raise ValueError("the fronts of the tree are not those of its matrix, or are merged")
+        return FrontRows(rows, made, used)
+
     def _sorted(self, order: List[int]) -> Any:
-        """The columns of the matrix by the places of their fronts."""
+        """The columns of the matrix by the places of their fronts, and in each by their ranks."""
         place = [0] * (len(self) + 1)
         for at, front in enumerate(order):
             place[front] = at
+        front_of = self._fronts()
+        ranks = [0] * len(front_of) if self.ranks is None else listed(self.ranks)
         if numpy is not None:
-            return numpy.argsort(numpy.asarray(place)[numpy.asarray(self._fronts())], kind="stable")
-        places_of = [place[front] for front in self._fronts()]
-        return sorted(range(len(places_of)), key=places_of.__getitem__)
+            return numpy.lexsort((ranks, numpy.asarray(place)[front_of]))
+        return sorted(range(len(front_of)), key=lambda column: (place[front_of[column]], ranks[column]))
 
     def _fronts(self) -> List[int]:
         if self.front_of is None:
@@ -313,12 +352,15 @@ class Tree(Work):
         return _calls.nodes_of(self.parent, self.out, self.extra, self.share, self.time)
 
     def _judge(self) -> None:
-        """The replay of no order is refused at its first place, where nothing else is."""
-        try:
-            self._asked(_calls.replay_tree, self._nodes(), memoryview(b"").cast("I"))
-        except TaskRefused as refusal:
-            if refusal.reason != "missing":
-                raise
+        self._judged_by(_calls.replay_tree, self._nodes())
+
+
+def inverse(order: List[int]) -> List[int]:
+    """The place of each number of an order."""
+    places = [0] * len(order)
+    for place, number in enumerate(order):
+        places[number] = place
+    return places
 
 
 def segments_of(page: Page) -> List[Segments]:

@@ -3,7 +3,7 @@
 from __future__ import annotations
 
 import unittest
-from typing import Any, Callable, List, Optional, Sequence, Tuple, Type
+from typing import Any, Callable, Dict, List, Optional, Sequence, Tuple, Type
 
 import memplan
 
@@ -26,6 +26,13 @@ FORK, FORKED = [6, 1, 0, 0], [(10, 0, [1, 2, 3]), (3, 1, [4]), (4, 2, [4]), (5, 
 
 # Column 0 is joined to all others: eliminated third, it leaves two fronts of one column, and one of two.
 ARROW = ([0, 3, 3, 3, 3], [1, 2, 3])
+
+
+NAMES = ["a", "b", "c", "d", "top"]  # of the tree
+
+# A diamond by names: what each step reads, and what each leaves.
+STEPS: Dict[str, List[str]] = {"load": [], "count": ["load"], "sort": ["load"], "merge": ["count", "sort"]}
+SIZES = {"load": 10, "count": 1, "sort": 10, "merge": 2}
 
 
 def put(values: Sequence[Any], at: int, value: Any) -> List[Any]:

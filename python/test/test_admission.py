@@ -6,15 +6,15 @@ import unittest
 from typing import Any, Optional, Sequence, Tuple
 
 import memplan
-from memplan.admission import MOST_RUNNING, Admission, BoundTooLow, Graph, GraphRefused
+from memplan.admission import MOST_RUNNING, Admission, BoundTooLow, GraphRefused, ResultGraph
 from samples import Case
 
 # The result of 0 is shared by 1 and 2; that of 1 goes to 3, as does that of 2.
 SHARED = [(), (0,), (0,), (1, 2)]
 
 
-def shared(sizes: Sequence[int] = (5, 3, 4, 1), extras: Sequence[int] = (0, 0, 2, 0)) -> Graph:
-    return Graph(SHARED, sizes, extras)
+def shared(sizes: Sequence[int] = (5, 3, 4, 1), extras: Sequence[int] = (0, 0, 2, 0)) -> ResultGraph:
+    return ResultGraph(SHARED, sizes, extras)
 
 
 class Bounds(Case):
@@ -28,7 +28,7 @@ class Bounds(Case):
         self.assertEqual(shared().planned_from([0, 1, 2, 3]), [0, 2, 1, 3])
         self.assertEqual(shared().planned_from([0, 2, 1, 3], 0), [0, 2, 1, 3])
         self.assertLessEqual(shared().least_bound(shared().planned_from([0, 1, 2, 3], 0)), 14)
-        self.assertEqual(Graph([], [], []).planned_from([]), [])
+        self.assertEqual(ResultGraph([], [], []).planned_from([]), [])
 
     def test_a_bound_that_is_too_low(self) -> None:
         with self.assertRaises(BoundTooLow) as caught:
@@ -37,8 +37,8 @@ class Bounds(Case):
         self.assertEqual(Admission(shared(), 14, [0, 1, 2, 3]).ready(), [0])
 
     def test_no_task(self) -> None:
-        self.assertEqual(Graph([], [], []).least_bound([]), 0)
-        self.assertEqual(Admission(Graph([], [], []), 0, []).left, 0)
+        self.assertEqual(ResultGraph([], [], []).least_bound([]), 0)
+        self.assertEqual(Admission(ResultGraph([], [], []), 0, []).left, 0)
 
 
 class Runs(Case):
@@ -83,7 +83,7 @@ class Runs(Case):
 
     # A result that is kept makes its consumers wait, and stays.
     def test_a_kept_result_stays(self) -> None:
-        graph = Graph(SHARED, (5, 3, 4, 1), (0, 0, 2, 0), kept=[0])
+        graph = ResultGraph(SHARED, (5, 3, 4, 1), (0, 0, 2, 0), kept=[0])
         self.assertEqual(graph.least_bound([0, 1, 2, 3]), 14)
         runs = Admission(graph, 14, [0, 1, 2, 3])
         self.assertEqual([self.run_next(runs, task) for task in range(4)], [5, 5 + 3, 5 + 3 + 4, 5 + 1])
@@ -92,7 +92,7 @@ class Runs(Case):
     # As many as a core has workers, and one more.
     def test_as_many_run_as_may(self) -> None:
         count = MOST_RUNNING + 1
-        runs = Admission(Graph([()] * count, [0] * count, [0] * count), 0, range(count))
+        runs = Admission(ResultGraph([()] * count, [0] * count, [0] * count), 0, range(count))
         self.assertEqual([runs.start(task) for task in runs.ready()], [True] * MOST_RUNNING + [False])
         runs.done(0)
         self.assertTrue(runs.start(MOST_RUNNING))
@@ -134,27 +134,27 @@ class Refusals(Case):
             self.assertEqual(self.told(graph.least_bound, [0, 1, 2, 3]), (kind, 3, 2, None, words))
             self.assertEqual(self.told(Admission, graph, 99, [0, 1, 2, 3]), (kind, 3, 2, None, words))
         forest = [(), (0,), (1,)]
-        self.assertEqual(self.told(Graph(forest, [1, 1, large], [0, 0, 0]).planned), (14, 3, 2, None, words))
-        self.assertEqual(self.told(Admission, Graph(forest, [1, 1, 1], [0, 0, large]), 99), (14, 3, 2, None, words))
+        self.assertEqual(self.told(ResultGraph(forest, [1, 1, large], [0, 0, 0]).planned), (14, 3, 2, None, words))
+        self.assertEqual(self.told(Admission, ResultGraph(forest, [1, 1, 1], [0, 0, large]), 99), (14, 3, 2, None, words))
 
     def test_other_limits(self) -> None:
-        self.assertEqual(self.told(Graph([], [], []).planned), (10, 0, None, None, "there is no task"))
+        self.assertEqual(self.told(ResultGraph([], [], []).planned), (10, 0, None, None, "there is no task"))
         count = 1_000_001
-        graph = Graph([()] * count, [0] * count, [0] * count)
+        graph = ResultGraph([()] * count, [0] * count, [0] * count)
         words = "there are more than 1,000,000 tasks"
         self.assertEqual(self.told(graph.planned), (11, 0, None, None, words))
         self.assertEqual(self.told(graph.least_bound, range(count)), (11, 0, None, None, words))
         count = 2 ** 19 + 1  # of twice 2^40 each
-        graph = Graph([()] * count, [2 ** 40] * count, [2 ** 40] * count)
+        graph = ResultGraph([()] * count, [2 ** 40] * count, [2 ** 40] * count)
         self.assertEqual(self.told(graph.planned), (16, 0, None, None, "all sizes together are greater than 2^60"))
-        graph = Graph([(), (0,)], [0, 0], [0, 0])
+        graph = ResultGraph([(), (0,)], [0, 0], [0, 0])
         graph.consumers[0] = [1] * 10_000_001  # by hand: graphs with so many take long to make
         words = "the tasks have more than 10,000,000 inputs together"
         self.assertEqual(self.told(graph.least_bound, [0, 1]), (53, 0, None, None, words))
 
     def test_circles(self) -> None:
-        def made(*inputs: Sequence[int]) -> Graph:
-            return Graph(inputs, [1] * len(inputs), [0] * len(inputs))
+        def made(*inputs: Sequence[int]) -> ResultGraph:
+            return ResultGraph(inputs, [1] * len(inputs), [0] * len(inputs))
 
         self.assertEqual(self.told(made, (), (1,)), (17, 2, 1, None, "task 1 waits for itself"))
         self.assertEqual(self.told(made, (1,), (0,)), (17, 1, 0, None, "the tasks [0, 1] wait for each other"))
@@ -166,16 +166,16 @@ class Refusals(Case):
         self.assertEqual(self.told(made, *many)[4], "the tasks [0, 1, 2, 3, 4, 5, ...] wait for each other")
 
     def test_tasks_that_are_none(self) -> None:
-        self.says(ValueError, "task 1 consumes the result of task 2, and there is none", Graph, [(), (2,)], [1, 1], [0, 0])
-        self.says(ValueError, "the result of task 2 is to be kept, and there is none", Graph, [(), (0,)], [1, 1], [0, 0], {0, 2})
-        self.says(ValueError, "inputs, sizes and extras have different lengths", Graph, [(), (0,)], [1], [0, 0])
-        self.says(ValueError, "inputs, sizes and extras have different lengths", Graph, [()], [1, 1], [0, 0])
-        self.says(TypeError, "inputs[1]: 5 is no list or array of whole numbers", Graph, [(), 5], [1, 1], [0, 0])
+        self.says(ValueError, "task 1 consumes the result of task 2, and there is none", ResultGraph, [(), (2,)], [1, 1], [0, 0])
+        self.says(ValueError, "the result of task 2 is to be kept, and there is none", ResultGraph, [(), (0,)], [1, 1], [0, 0], {0, 2})
+        self.says(ValueError, "inputs, sizes and extras have different lengths", ResultGraph, [(), (0,)], [1], [0, 0])
+        self.says(ValueError, "inputs, sizes and extras have different lengths", ResultGraph, [()], [1, 1], [0, 0])
+        self.says(TypeError, "inputs[1]: 5 is no list or array of whole numbers", ResultGraph, [(), 5], [1, 1], [0, 0])
 
 
 class Forms(Case):
     def test_sets_and_other_integers(self) -> None:
-        graph = Graph([set(), {0}, frozenset([0]), range(1, 3)], range(1, 5), [0] * 4, kept={0})
+        graph = ResultGraph([set(), {0}, frozenset([0]), range(1, 3)], range(1, 5), [0] * 4, kept={0})
         self.assertEqual(graph.inputs, [(), (0,), (0,), (1, 2)])
         self.assertEqual((graph.sizes, graph.kept), ([1, 2, 3, 4], {0, 3}))
 

@@ -98,6 +98,39 @@ class Fronts(Case):
         self.check_arrow(ARROW)
         self.assertEqual(self.refused(memplan.fronts, ([0, 3, 3, 3, 3], [1, 2, 4])), (3, 66, 3, 0))
 
+    def test_of_an_analysis(self) -> None:
+        for order in ([1, 2, 0, 3], None):
+            made = memplan.analyse(ARROW, order)
+            found = [list(field) for field in made]
+            self.assertEqual(found, [[3, 3, 0], [1, 1, 0], [2, 2, 3], [0, 0, 0], [1, 1, 2], [3, 1, 2, 3], [1, 2, 0, 3]])
+            self.assertEqual(list(memplan.columns(made.order, made.front_of, [2, 1, 3])), [2, 1, 0, 3])
+        # two chains that meet in the last column: the postorder takes the first chain, then the second one
+        chains = [0, 1, 2, 3, 4, 4], [2, 3, 4, 4]
+        made = memplan.analyse(chains, range(5))
+        self.assertEqual((list(made.front_of), list(made.order)), ([1, 3, 2, 4, 5], [0, 2, 1, 3, 4]))
+        along = memplan.columns(made.order, made.front_of, [3, 4, 1, 2, 5])
+        self.assertEqual(list(along), [1, 3, 0, 2, 4])
+        again = memplan.analyse(chains, along)
+        self.assertEqual((list(again.front_of), list(again.order)), ([3, 1, 4, 2, 5], [1, 3, 0, 2, 4]))
+        self.assertEqual(self.refused(memplan.analyse, ARROW, [1, 2, 0, 1]), (3, 69, 4, 0))
+
+    def test_of_minimum_degree(self) -> None:
+        self.assertEqual(list(memplan.minimum_degree(ARROW)), [1, 2, 0, 3])
+        self.assertEqual(self.refused(memplan.minimum_degree, ([0, 3, 3, 3, 3], [1, 2, 4])), (3, 66, 3, 0))
+        self.assertEqual(self.refused(memplan.minimum_degree, ([0] * 50_002, [])), (4, 70, 0, 0))
+
+    def test_columns_that_are_refused(self) -> None:
+        for order, front_of, fronts, fault in (
+            ([1, 2, 0, 3], [3, 1, 2], [1, 2, 3], (2, 73, 0, 0)),
+            ([1, 2, 0, 2], [3, 1, 2, 3], [1, 2, 3], (3, 69, 4, 0)),
+            ([1, 4, 0, 2], [3, 1, 2, 3], [1, 2, 3], (3, 68, 2, 0)),
+            ([1, 2, 0, 3], [3, 1, 2, 3], [1, 2, 4], (1, 20, 3, 0)),
+            ([1, 2, 0, 3], [3, 1, 2, 3], [2, 1, 2], (1, 21, 3, 0)),
+            ([1, 2, 0, 3], [3, 1, 4, 3], [2, 1, 3], (3, 74, 3, 0)),
+        ):
+            self.assertEqual(self.refused(memplan.columns, order, front_of, fronts), fault)
+        self.assertEqual(list(memplan.columns([], [], [])), [])
+
     @unittest.skipUnless(scipy, "there is no scipy")
     def test_of_sparse_matrices(self) -> None:
         self.check_arrow(scipy.sparse.csc_matrix([[1, 0, 0, 0], [5, 1, 0, 0], [5, 0, 1, 0], [5, 0, 0, 1]]))

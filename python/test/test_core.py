@@ -24,7 +24,9 @@ class Calls(Case):
         self.assertEqual(self.refused(memplan.Core.of_tree, PARENT, OUT, EXTRA, ACROSS, 10, 2), (5, 30, 0, 11))
         runs, ran, top = core(), [], 0
         while task := runs.activate():
+            self.assertEqual(runs.next(), task)
             self.assertTrue(runs.is_startable(task) and runs.start(task))
+            self.assertEqual(runs.next(), 0)
             top = max(top, runs.used)
             self.assertLessEqual(runs.booked, 11)
             self.assertTrue(runs.finish(task) and runs.is_done(task))

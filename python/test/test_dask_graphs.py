@@ -3,14 +3,12 @@
 from __future__ import annotations
 
 import operator
-import sys
 import unittest
-from pathlib import Path
 from random import Random
 from typing import Any, Dict, List
 
 from memplan import Graph, TaskRefused
-from samples import Case
+from samples import SIZES, STEPS, Case
 
 try:
     import dask
@@ -19,15 +17,12 @@ try:
 except ImportError:
     raise unittest.SkipTest("there is no dask") from None
 
-sys.path.append(str(Path(__file__).resolve().parents[2] / "integrations/dask"))
 try:
     import distributed
-    import memplan_dask
+    import memplan.dask
 except ImportError:
     distributed = None
 
-STEPS: Dict[str, List[str]] = {"load": [], "count": ["load"], "sort": ["load"], "merge": ["count", "sort"]}
-SIZES = {"load": 10, "count": 1, "sort": 10, "merge": 2}
 
 
 def total(*parts: int) -> int:
@@ -50,28 +45,28 @@ class Plain(Case):
             order = draw.sample(keys, len(keys))
             tasks = {key: plain(inputs)[key] for key in order}
             told = draw.choice([{key: (size[key], extra[key]) for key in keys}, lambda key: (size[key], extra[key])])
-            graph = Graph.from_dask(tasks, told, time)
+            graph = Graph.of_dask(tasks, told, time)
             wanted = Graph.of_mapping({key: inputs[key] for key in order}, size, extra, time=time)
             self.assertEqual(graph.text(), wanted.text())
             self.assertEqual(graph.names, order)
 
     def test_layers_are_read_too(self) -> None:
         value = delayed(total, pure=True)(delayed(total, pure=True)(), delayed(total, pure=True)(1), dask_key_name="end")
-        graph = Graph.from_dask(value.__dask_graph__(), lambda key: 3)
+        graph = Graph.of_dask(value.__dask_graph__(), lambda key: 3)
         self.assertEqual((len(graph), graph.plan().peak), (3, 9))
         self.assertIn("end", graph.names)
 
     def test_sizes_that_are_none(self) -> None:
         tasks = plain(STEPS)
-        self.says(ValueError, "sizes: there is none for 'merge'", Graph.from_dask, tasks, {"load": 1, "count": 1, "sort": 1})
-        self.says(TypeError, "sizes['load']: 1.5 is no whole number", Graph.from_dask, tasks, lambda key: 1.5)
-        self.says(OverflowError, "sizes['load'], its extra: -1 is negative", Graph.from_dask, tasks, lambda key: (1, -1))
-        self.says(TypeError, "sizes: 7 is neither a mapping nor a function of keys", Graph.from_dask, tasks, 7)
-        self.says(ValueError, "time: 'other' is no task", Graph.from_dask, tasks, SIZES, {"other": 3})
+        self.says(ValueError, "sizes: there is none for 'merge'", Graph.of_dask, tasks, {"load": 1, "count": 1, "sort": 1})
+        self.says(TypeError, "sizes['load']: 1.5 is no whole number", Graph.of_dask, tasks, lambda key: 1.5)
+        self.says(OverflowError, "sizes['load'], its extra: -1 is negative", Graph.of_dask, tasks, lambda key: (1, -1))
+        self.says(TypeError, "sizes: 7 is neither a mapping nor a function of keys", Graph.of_dask, tasks, 7)
+        self.says(ValueError, "time: 'other' is no task", Graph.of_dask, tasks, SIZES, {"other": 3})
 
     def test_tasks_that_wait_for_each_other(self) -> None:
         words = "task 'a': the parents lead to no root, or the tasks wait for each other"
-        self.says(TaskRefused, words, Graph.from_dask(plain({"a": ["b"], "b": ["a"]}), lambda key: 1).plan)
+        self.says(TaskRefused, words, Graph.of_dask(plain({"a": ["b"], "b": ["a"]}), lambda key: 1).plan)
 
 
 @unittest.skipUnless(distributed, "there is no distributed")
@@ -83,10 +78,10 @@ class Collections(Case):
         merge = delayed(total)(count, sort, dask_key_name="merge")
         unused = delayed(total)(load, dask_key_name="unused")
         self.assertTrue(is_dask_collection(unused) and isinstance(merge, Delayed))
-        graph = Graph.from_dask(merge, SIZES)
+        graph = Graph.of_dask(merge, SIZES)
         self.assertEqual(sorted(graph.names), sorted(STEPS))
         self.assertEqual(graph.plan().peak, Graph.of_mapping(STEPS, SIZES).plan().peak)
-        both = Graph.from_dask([merge, load], SIZES)
+        both = Graph.of_dask([merge, load], SIZES)
         others = {key: size for key, size in SIZES.items() if key != "load"}
         without = Graph.of_mapping({"count": [], "sort": [], "merge": ["count", "sort"]}, others)
         self.assertEqual(both.plan().peak, 10 + without.plan().peak)
@@ -95,9 +90,9 @@ class Collections(Case):
         """The bound that a run along this plan needs is its peak."""
         value = [delayed(total)(at, dask_key_name=f"load-{at}") for at in range(4)]
         end = delayed(total)(*value, dask_key_name="end")
-        graph = Graph.from_dask(end, lambda key: (5, 2))
-        tasks, _ = memplan_dask.of_collection(end, lambda key: (5, 2))
-        made = memplan_dask.tasks.graph_of(tasks, 0)
+        graph = Graph.of_dask(end, lambda key: (5, 2))
+        tasks, _ = memplan.dask.of_collection(end, lambda key: (5, 2))
+        made = memplan.dask.tasks.graph_of(tasks, 0)
         plan = graph.plan()
         place = {task.key: at for at, task in enumerate(tasks)}
         self.assertEqual(made.least_bound([place[key] for key in plan.order]), plan.peak)
@@ -109,7 +104,7 @@ class Collections(Case):
         except ImportError:
             self.skipTest("there is no numpy")
         x = dask.array.from_array(numpy.arange(64).reshape(8, 8), chunks=4)
-        graph = Graph.from_dask((x + x.T).sum(), lambda key: (128, 0))
+        graph = Graph.of_dask((x + x.T).sum(), lambda key: (128, 0))
         self.assertTrue(all(isinstance(name, (str, tuple)) for name in graph.names))
         self.assertEqual(len(graph), len(set(graph.names)))
         self.assertGreaterEqual(graph.plan().peak, 2 * 128)

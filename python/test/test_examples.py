@@ -22,8 +22,9 @@ except ImportError:
 
 try:
     import dask
+    import distributed
 except ImportError:
-    dask = None
+    dask = distributed = None
 
 try:
     import scipy.sparse
@@ -40,8 +41,12 @@ else:
     from memplan import plot
 
 TOP = Path(__file__).resolve().parents[2]
-MODULES = ["_refusals", "_texts", "_work", "graphs", "results", "trees", "workflows", *(["plot"] if matplotlib else [])]
-CLASSES = [memplan.Tree, memplan.Graph, memplan.Workflow, memplan.Plan, memplan.Fences, memplan.Simulation, memplan.Segments]
+NAMES = ["_refusals", "_texts", "_work", "admission", "graphs", "results", "threads", "trees", "workflows"]
+NAMES += ["plot"] if matplotlib else []
+NAMES += ["dask.runner", "dask.tasks"] if distributed else []
+MODULES = ["memplan", *(f"memplan.{name}" for name in NAMES)]
+CLASSES = [memplan.Tree, memplan.Graph, memplan.Workflow, memplan.Plan, memplan.Fences, memplan.Simulation, memplan.Segments, memplan.Core]
+CALLS = ["plan", "best_postorder", "replay", "certify", "check", "spill", "fronts", "replay_system", "replay_shared", "plan_shared"]
 PICTURES = ("plot.", ".plot(", ".report(")
 
 FIVE = Tree([2, 5, 4, 5, 0], [1, 5, 1, 5, 0], [9, 0, 9, 0, 0], names=["a", "b", "c", "d", "top"])
@@ -78,30 +83,38 @@ class Examples(unittest.TestCase):
             self.assertIn(">>> " if kind in (memplan.Tree, memplan.Graph, memplan.Workflow) else "", kind.__doc__ or "")
             for name, value in public(kind):
                 self.assertIn(">>> ", value.__doc__ or "", name)
+        for name in CALLS:
+            self.assertIn(">>> ", getattr(memplan, name).__doc__, name)
+        if distributed is not None:
+            for name in ("least_bound", "run", "of_collection", "of_graph", "dask_order"):
+                self.assertIn(">>> ", getattr(importlib.import_module("memplan.dask"), name).__doc__, name)
         if matplotlib is not None:
             for name in plot.__all__:
                 self.assertIn(">>> ", getattr(plot, name).__doc__, name)
 
     def test_they_say_what_is_so(self) -> None:
         with tempfile.TemporaryDirectory() as folder:
-            given: Dict[str, Any] = {**vars(memplan), "FIVE": FIVE, "DIAMOND": DIAMOND, "FOLDER": Path(folder)}
-            given.update(EXAMPLES=TOP / "examples", networkx=networkx, Item=Item, Join=Join)
+            given: Dict[str, Any] = {name: getattr(memplan, name) for name in memplan.__all__}
+            given.update(FIVE=FIVE, DIAMOND=DIAMOND, FOLDER=Path(folder), EXAMPLES=TOP / "examples", networkx=networkx, Item=Item, Join=Join)
             if matplotlib is not None:
                 given["plot"] = plot
+            if distributed is not None:
+                given["CLIENT"] = client = distributed.Client(processes=False, dashboard_address=None)
+                self.addCleanup(client.close)
             count = 0
             for name in MODULES:
-                module = importlib.import_module(f"memplan.{name}")
+                module = importlib.import_module(name)
                 for test in doctest.DocTestFinder(exclude_empty=True).find(module, extraglobs=given):
                     if test.examples:
                         count += 1
                         with self.subTest(test.name):
                             self.run_examples(test)
-            self.assertGreater(count, 40)
+            self.assertGreater(count, 80)
 
     def test_the_page_says_what_is_so(self) -> None:
         """The blocks of docs/PYTHON.md, one after the other."""
-        if networkx is None or scipy is None:
-            self.skipTest("there is no networkx, or no scipy")
+        if networkx is None or scipy is None or distributed is None:
+            self.skipTest("there is no networkx, no scipy, or no distributed")
         page = (TOP / "docs/PYTHON.md").read_text(encoding="utf-8")
         blocks = re.findall(r"```python\n(.*?)```", page, re.DOTALL)
         self.assertGreater(len(blocks), 3)

@@ -5,11 +5,12 @@ from __future__ import annotations
 import enum
 import unittest
 from decimal import Decimal
-from typing import Any, Callable, Iterator, List, NamedTuple
+from typing import Any, Callable, Dict, Iterator, List, NamedTuple
 
 import memplan
-from memplan.admission import Admission, Graph
-from samples import ACROSS, ARROW, EXTRA, FORK, FORKED, IN_TURN, ITEMS, OUT, PARENT, TASKS, Case, numpy, put
+from memplan import Fences, Graph, Plan, Tree, Workflow
+from memplan.admission import Admission, ResultGraph
+from samples import ACROSS, ARROW, EXTRA, FORK, FORKED, ITEMS, OUT, PARENT, SIZES, STEPS, TASKS, Case, numpy, put
 
 FRACTIONS = [2.9, 1.0, float("nan"), True, False, "7", None, Decimal(1), [1], (1,), 1j]
 if numpy:
@@ -46,8 +47,8 @@ def replayed(item: Any) -> int:
     return memplan.replay_system(TASKS, put(ITEMS, 0, item), [1, 2, 3, 4])
 
 
-def of_graph(inputs: Any = ((), (0,)), sizes: Any = (1, 1), extras: Any = (1, 1), kept: Any = ()) -> Graph:
-    return Graph(inputs, sizes, extras, kept)
+def of_graph(inputs: Any = ((), (0,)), sizes: Any = (1, 1), extras: Any = (1, 1), kept: Any = ()) -> ResultGraph:
+    return ResultGraph(inputs, sizes, extras, kept)
 
 
 TREES = [
@@ -111,27 +112,102 @@ ADMISSION = [
     Place("bound", 64, lambda it: Admission(of_graph(), it, [0, 1])),
     Place("task", 32, lambda it: Admission(of_graph(), 9, [0, 1]).start(it)),
 ]
-PLACES = [*TREES, *CERTIFICATES, *SYSTEMS, *CORES, *FRONTS, *ADMISSION]
+
+
+def tree(**other: Any) -> Tree:
+    return Tree(**{"parent": PARENT, "out": OUT, "extra": EXTRA, **other})
+
+
+def plan_of_tree(at: int, column: int, value: Any) -> Plan:
+    """The plan with another number in a column of its claims."""
+    plan: Any = tree().plan(evidence=True)
+    columns = [list(map(int, it)) for it in plan.evidence]
+    columns[column] = put(columns[column], at, value)
+    return plan._replace(evidence=type(plan.evidence)(*columns))  # type: ignore[no-any-return]
+
+
+def graph(**other: Any) -> Graph:
+    return Graph(**{"extra": FORK, "items": FORKED, **other})
+
+
+def columns(**other: Any) -> Graph:
+    given = {"extra": [0, 0], "size": [4], "producer": [1], "starts": [0, 1], "readers": [2]}
+    return Graph.of_columns(**{**given, **other})
+
+
+def fences(**other: Any) -> None:
+    made: Fences = tree().fence(ACROSS, 15)
+    tree().check_fences(made._replace(**other))
+
+
+OBJECTS = [
+    Place("parent[3]", 32, lambda it: tree(parent=put(PARENT, 3, it))),
+    Place("out[3]", 63, lambda it: tree(out=put(OUT, 3, it))),
+    Place("extra[3]", 63, lambda it: tree(extra=put(EXTRA, 3, it))),
+    Place("share[3]", 63, lambda it: tree(share=put([0] * 5, 3, it))),
+    Place("time[3]", 63, lambda it: tree(time=put([1] * 5, 3, it))),
+    Place("front_of[1]", 32, lambda it: tree(front_of=[1, it])),
+    Place("base", 32, lambda it: tree(base=it)),
+    Place("order[2]", 32, lambda it: tree().replay(put(ACROSS, 2, it))),
+    Place("order[2]", 32, lambda it: tree().simulate(put(ACROSS, 2, it), 15, 2)),
+    Place("priority[2]", 32, lambda it: tree().simulate(ACROSS, 15, 2, put(ACROSS, 2, it))),
+    Place("bound", 64, lambda it: tree().simulate(ACROSS, it, 2)),
+    Place("workers", 32, lambda it: tree().simulate(ACROSS, 15, it)),
+    Place("bound", 64, lambda it: tree().spill(ACROSS, it)),
+    Place("bound", 64, lambda it: tree().fence(ACROSS, it)),
+    Place("peak", 64, lambda it: tree().check(tree().plan(evidence=True)._replace(peak=it))),
+    Place("claims.position[1]", 32, lambda it: tree().check(plan_of_tree(1, 0, it))),
+    Place("claims.backward[1]", 32, lambda it: tree().check(plan_of_tree(1, 1, it))),
+    Place("claims.rest[1]", 64, lambda it: tree().check(plan_of_tree(1, 3, it))),
+    Place("bound", 64, lambda it: fences(bound=it)),
+    Place("room", 64, lambda it: fences(room=it)),
+    Place("amounts[1]", 63, lambda it: fences(amounts=[1, it])),
+    Place("indptr[1]", 32, lambda it: Tree.of_matrix((put(ARROW[0], 1, it), ARROW[1]))),
+    Place("indices[2]", 32, lambda it: Tree.of_matrix((ARROW[0], put(ARROW[1], 2, it)))),
+    Place("order[3]", 32, lambda it: Tree.of_matrix(ARROW, [1, 2, 0, it])),
+    Place("workers", 32, lambda it: Tree.of_matrix(ARROW).fronts(9, it)),
+    Place("extra[1]", 63, lambda it: graph(extra=put(FORK, 1, it))),
+    Place("share[1]", 63, lambda it: graph(share=put([0] * 4, 1, it))),
+    Place("time[1]", 63, lambda it: graph(time=put([1] * 4, 1, it))),
+    Place("items[0].size", 63, lambda it: graph(items=put(FORKED, 0, (it, 0, [1, 2])))),
+    Place("items[0].readers[1]", 32, lambda it: graph(items=put(FORKED, 0, (1, 0, [1, it])))),
+    Place("effort", 64, lambda it: graph().plan(effort=it)),
+    Place("effort", 64, lambda it: graph().bound(effort=it)),
+    Place("start[0]", 32, lambda it: graph().plan([it, 2, 3, 4])),
+    Place("order[0]", 32, lambda it: graph().replay([it, 2, 3, 4])),
+    Place("workers", 32, lambda it: graph().check(graph().plan(evidence=True), it)),
+    Place("size[0]", 63, lambda it: columns(size=[it])),
+    Place("producer[0]", 32, lambda it: columns(producer=[it])),
+    Place("starts[1]", 63, lambda it: columns(starts=[0, it])),
+    Place("readers[0]", 32, lambda it: columns(readers=[it])),
+    Place("edges[0].size", 64, lambda it: Graph.of_edges([("load", "sort", it)])),
+    Place("positions[0].size", 64, lambda it: Workflow([("data", it)])),
+    Place("positions[1].extra", 64, lambda it: Workflow([("data", 1), ("task", it, 0, 1)])),
+    Place("positions[1].count", 64, lambda it: Workflow([("data", 1), ("par", it)])),
+]
+PLACES = [*TREES, *CERTIFICATES, *SYSTEMS, *CORES, *FRONTS, *ADMISSION, *OBJECTS]
 # None says that no fronts are merged.
 ZEROS = Place("zeros", 64, lambda it: memplan.fronts(ARROW, [1, 2, 0, 3], zeros=it))
+# None says in a mapping that there is none.
+MAPPED = Place("extra['sort']", 63, lambda it: Graph.of_mapping(STEPS, SIZES, extra={"sort": it}))
 BOUND_OF_CLAIM = Place("claims[1].bound", 64, lambda it: checked(altered(1, 2, it)))
 
 
 class Scalars(Case):
     def test_what_is_no_whole_number(self) -> None:
-        for place in (*PLACES, BOUND_OF_CLAIM, ZEROS):
+        for place in (*PLACES, BOUND_OF_CLAIM, ZEROS, MAPPED):
             for value in FRACTIONS:
-                if place is not ZEROS or value is not None:
+                if value is not None or place not in (ZEROS, MAPPED):
                     self.says(TypeError, f"{place.name}: {value!r} is no whole number", place.call, value)
 
     def test_what_is_negative(self) -> None:
-        for place in (*PLACES, ZEROS):
+        for place in (*PLACES, ZEROS, MAPPED):
             root = "; the parent of a root is 0" if place.name.startswith("parent") else ""
             self.says(OverflowError, f"{place.name}: -1 is negative{root}", place.call, -1)
             self.says(OverflowError, f"{place.name}: {-2 ** 64} is negative", place.call, -(2 ** 64))
 
     def test_what_is_too_great(self) -> None:
-        for place in (*PLACES, ZEROS):
+        for place in (*PLACES, ZEROS, MAPPED):
             for value in (2 ** place.bits, 2 ** place.bits + 1, 2 ** 64 + 5):
                 self.says(OverflowError, f"{place.name}: {value} does not fit {place.bits} bits", place.call, value)
             words = f"{place.name}: a number of 16610 bits does not fit {place.bits} bits"
@@ -216,6 +292,53 @@ class Columns(Case):
         self.assertEqual(self.refused(memplan.plan, numpy.array([]), [], []), (3, 10, 0, 0))
 
 
+SHAPES: Dict[str, Callable[[Any], Any]] = {
+    "parent": lambda it: memplan.plan(it, OUT, EXTRA),
+    "out": lambda it: memplan.certify(PARENT, it, EXTRA),
+    "extra": lambda it: memplan.best_postorder(PARENT, OUT, it),
+    "share": lambda it: memplan.plan(PARENT, OUT, EXTRA, it) if it is not None else tree(share=0),
+    "order": lambda it: memplan.replay(PARENT, OUT, EXTRA, it),
+    "tasks": lambda it: memplan.replay_system(it, [], []),
+    "indptr": lambda it: memplan.fronts((it, [])),
+    "indices": lambda it: memplan.fronts(([0, 1], it)),
+    "parent of a Tree": lambda it: tree(parent=it),
+    "extra of a Graph": lambda it: graph(extra=it),
+    "time of a Tree": lambda it: tree(time=it) if it is not None else tree(extra=it),
+    "order of a Tree": lambda it: tree().replay(it),
+    "order of a Graph": lambda it: graph().replay(it),
+    "starts of a Graph": lambda it: columns(starts=it),
+    "amounts of Fences": lambda it: fences(amounts=it),
+}
+
+
+class Shapes(Case):
+    """What stands in the place of a column, and is none."""
+
+    def refuses(self, value: Any) -> None:
+        for what, call in SHAPES.items():
+            with self.subTest(what, value=value), self.assertRaises(TypeError) as caught:
+                call(value)
+            name, none = what.split(" ")[0], "is no (whole number|list or array of whole numbers)"
+            self.assertRegex(str(caught.exception), rf"^({name}|extra|share)(\[\d\])?: .* {none}$")
+
+    def test_what_has_no_places(self) -> None:
+        for value in (None, 5, 2.9, float("nan"), True, "12345", b"12345", {1, 2}, {0: 5}, object(), iter([1, 2])):
+            self.refuses(value)
+
+    def test_lists_in_lists(self) -> None:
+        for value in ([[1, 2], [3, 4]], [(1,)], [[]], [None], [b"1"], [range(3)]):
+            self.refuses(value)
+
+    @unittest.skipUnless(numpy, "there is no numpy")
+    def test_arrays_of_another_shape_or_kind(self) -> None:
+        whole = numpy.arange(6)
+        shapes = [whole.reshape(2, 3), whole.reshape(6, 1), whole.reshape(1, 2, 3), numpy.array(7), numpy.int64(7)]
+        kinds = [whole.astype(kind) for kind in ("float32", "float64", "complex128", "bool", "U3", "S3", "datetime64[s]", "timedelta64[s]")]
+        records = numpy.zeros(3, [("out", "int64"), ("extra", "int64")])
+        for value in (*shapes, *kinds, records, numpy.array([1, 2.5], object), numpy.array([numpy.nan])):
+            self.refuses(value)
+
+
 class ClaimsThatAreNone(Case):
     def test_claims_of_another_form(self) -> None:
         fields = "(position, backward, bound, rest)"
@@ -243,9 +366,9 @@ class ClaimsThatAreNone(Case):
 
 def numbers_that_were_taken_for_others() -> Iterator[Any]:
     """Calls that once had an answer, for other numbers than were given."""
-    yield TypeError, "sizes[0]: 2.9 is no whole number", lambda: Graph([(), (0,)], [2.9, 0.9], [0.9, 0.9])
-    yield TypeError, "extras[0]: 0.9 is no whole number", lambda: Graph([(), (0,)], [2, 0], [0.9, 0.9])
-    yield OverflowError, f"sizes[0]: {2 ** 64} does not fit 64 bits", lambda: Graph([()], [2 ** 64], [0])
+    yield TypeError, "sizes[0]: 2.9 is no whole number", lambda: ResultGraph([(), (0,)], [2.9, 0.9], [0.9, 0.9])
+    yield TypeError, "extras[0]: 0.9 is no whole number", lambda: ResultGraph([(), (0,)], [2, 0], [0.9, 0.9])
+    yield OverflowError, f"sizes[0]: {2 ** 64} does not fit 64 bits", lambda: ResultGraph([()], [2 ** 64], [0])
     yield OverflowError, f"tasks[0]: {2 ** 64 + 5} does not fit 64 bits", lambda: memplan.replay_system([2 ** 64 + 5], [], [1])
     yield (
         OverflowError,

@@ -6,12 +6,12 @@ import dataclasses
 import os
 import pickle
 import unittest
-from typing import Any, Dict, List
+from typing import Any, List
 from unittest import mock
 
 import memplan
 from memplan import Claims, Fences, Graph, Item, Join, Need, Plan, Readers, States, TaskRefused, Tree, Workflow, _program
-from samples import ARROW, EXTRA, FORK, FORKED, IN_TURN, OUT, PARENT, Case, numpy, put
+from samples import ARROW, EXTRA, FORK, FORKED, IN_TURN, NAMES, OUT, PARENT, SIZES, STEPS, Case, numpy, put
 
 try:
     import scipy.sparse
@@ -23,9 +23,6 @@ try:
 except ImportError:
     networkx = None
 
-NAMES = ["a", "b", "c", "d", "top"]
-STEPS: Dict[str, List[str]] = {"load": [], "count": ["load"], "sort": ["load"], "merge": ["count", "sort"]}
-SIZES = {"load": 10, "count": 1, "sort": 10, "merge": 2}
 
 
 class Trees(Case):
@@ -189,6 +186,26 @@ class Trees(Case):
     def test_fronts_of_columns(self) -> None:
         self.check_arrow(ARROW)
         self.says(ValueError, "the tree is of no matrix", Tree(PARENT, OUT, EXTRA).elimination, IN_TURN)
+
+    # 1 is joined to 0 and 2: eliminated first it joins these, so all are one front. 0 before 1 would be a front of its own.
+    def test_columns_of_a_front_keep_their_order(self) -> None:
+        path = [0, 0, 2, 2], [0, 2]
+        tree = Tree.of_matrix(path, [1, 0, 2])
+        self.assertEqual(([list(columns) for columns in tree.columns()], list(tree.elimination([1]))), ([[1, 0, 2]], [1, 0, 2]))
+        self.assertEqual([list(rows) for rows in tree.fronts().rows], [[1, 0, 2]])
+        self.assertEqual(len(Tree.of_matrix(path, [0, 1, 2])), 2)
+
+    def test_rows_of_fronts(self) -> None:
+        made = Tree.of_matrix(ARROW, [1, 2, 0, 3], base=0).fronts(4, workers=2)
+        self.assertEqual([list(rows) for rows in made.rows], [[1, 0], [2, 0], [0, 3]])
+        self.assertEqual(([list(it) for it in made.rounds], made.used), ([[0, 1], [2]], 4))
+        self.assertEqual(self.told(Tree.of_matrix(ARROW).fronts, 3), (5, 30, 0, "bound", None))
+        self.assertEqual(self.told(Tree.of_matrix(ARROW).fronts, 4, 4097), (2, 4, 0, "workers", None))
+        self.says(ValueError, "the tree is of no matrix", Tree(PARENT, OUT, EXTRA).fronts)
+        self.says(ValueError, "the tree has no pattern of its matrix", Tree([0], [0], [1], front_of=[1]).fronts)
+        words = "the fronts of the tree are not those of its matrix, or are merged"
+        self.says(ValueError, words, Tree.of_matrix(ARROW, zeros=1).fronts)
+        self.says(ValueError, words, Tree([0], [0], [1], front_of=[1, 1], pattern=([0, 0, 0], [])).fronts)
 
     def check_arrow(self, arrow: Any) -> None:
         tree = Tree.of_matrix(arrow, [1, 2, 0, 3], base=0)

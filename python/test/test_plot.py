@@ -10,13 +10,12 @@ import tempfile
 import time
 import unittest
 from pathlib import Path
-from random import Random
-from typing import Any, Callable, Dict, Iterator, List, Tuple
+from typing import Any, Dict
 
 import memplan
 from memplan import Graph, Plan, Tree, Workflow
-from samples import EXTRA, FORK, FORKED, OUT, PARENT, Case
-from works import drawn_graph, drawn_order, drawn_tree, drawn_workflow
+from samples import EXTRA, FORK, FORKED, NAMES, OUT, PARENT, Case
+from works import works
 
 try:
     import matplotlib
@@ -30,18 +29,6 @@ from memplan import _plot_look as look  # noqa: E402
 from memplan import _systems, plot  # noqa: E402
 
 TOP = Path(__file__).resolve().parents[2]
-NAMES = ["a", "b", "c", "d", "top"]
-KINDS: Tuple[Tuple[Any, Callable[[Random], Any]], ...] = ((Tree, drawn_tree), (Graph, drawn_graph), (Workflow, drawn_workflow))
-SEEDS = 12
-
-
-def works() -> Iterator[Tuple[Any, Any, List[int], Random]]:
-    """Random works with an order of each."""
-    for kind, drawn_work in KINDS:
-        for seed in range(SEEDS):
-            draw = Random(f"{kind.__name__} {seed}")
-            drawn = drawn_work(draw)
-            yield kind(**drawn.columns), drawn, drawn_order(draw, drawn.before), draw
 
 
 class Pictures(Case):
@@ -65,14 +52,14 @@ class Against(Pictures):
     """What is drawn is what the library and the program say."""
 
     def test_memory_is_that_of_replay(self) -> None:
-        for work, drawn, order, _ in works():
+        for work, drawn, order, _ in works(12):
             course = _systems.course_of(_systems.system_of(work), numpy.array(order, "int64"))
             self.assertEqual(course.peak, work.replay(order), drawn.text)
             self.assertEqual(len(course.between), len(order) + 1)
             self.assertTrue((course.between >= 0).all(), drawn.text)
 
     def test_blocks_that_are_there_are_the_memory(self) -> None:
-        for work, drawn, order, _ in works():
+        for work, drawn, order, _ in works(12):
             system, tasks = _systems.system_of(work), numpy.array(order, "int64")
             lives = _systems.lives_of(system, tasks)
             for at, level in enumerate(_systems.course_of(system, tasks).between):
@@ -80,7 +67,7 @@ class Against(Pictures):
                 self.assertEqual(int(system.sizes[there].sum()), int(level), drawn.text)
 
     def test_runs_use_and_book_what_simulate_says(self) -> None:
-        for work, drawn, order, draw in works():
+        for work, drawn, order, draw in works(12):
             run = work.simulate(order, work.replay(order) + draw.choice([0, 5, 60]), draw.randint(1, 4))
             system = _systems.system_of(work)
             events = plot._events(work, run)
@@ -89,7 +76,7 @@ class Against(Pictures):
             self.assertEqual(int(levels.used[-1]), int(_systems.course_of(system, numpy.array(order, "int64")).between[-1]))
 
     def test_all_is_inside(self) -> None:
-        for at, (work, _, order, draw) in enumerate(works()):
+        for at, (work, _, order, draw) in enumerate(works(12)):
             if at % 4:
                 continue
             names = [draw.choice(["x", "align_3", "a very long name of a task", "$\\x$", "ü\n"]) + str(k) for k in range(len(order))]

@@ -1,4 +1,8 @@
-"""The methods of trees, graphs and workflows against the program, on random inputs whose tasks are called by numbers or by names."""
+"""The calls of the library, and the methods of trees, graphs and workflows, against the program, on random inputs.
+
+Tasks are called by numbers or by names, and numbers stand in lists, tuples and arrays. Some two hundred inputs are drawn; `python/compare`
+draws more. What is the same run of the program for a call and for a method is made once.
+"""
 
 from __future__ import annotations
 
@@ -6,275 +10,325 @@ import unittest
 from random import Random
 from typing import Any, Callable, Dict, Iterator, List, Tuple
 
-from memplan import Blockers, Fences, Gaps, Graph, Need, Plan, Readers, Segments, Simulation, TaskRefused, Tree, Workflow
-from samples import Case
-from works import Drawn, drawn_graph, drawn_order, drawn_tree, drawn_workflow, listed, program
+import memplan
+from against import INPUTS, Against, Input, claim_lines, given, simulated, spill_text, ways, wrong_order
+from memplan import Certificate, Gaps, Graph, Plan, SharedItem, Tree, Workflow
+from works import TOP, Drawn, drawn_graph, drawn_matrix, drawn_order, drawn_tree, drawn_workflow, graph_text, listed, tree_text
 
-SEEDS = 30
+try:
+    from scipy import io
+except ImportError:
+    io = None
 
-
-class Named:
-    """One work in each of the ways in which its tasks may be called, and from a task as it is called back to its number."""
-
-    def __init__(self, work: Any, names: List[Any]) -> None:
-        self.work = work
-        self.names = names
-        self.number = {name: at for at, name in enumerate(names, 1)}
-
-    def told(self, numbers: List[int]) -> List[Any]:
-        return [self.names[number - 1] for number in numbers]
-
-    def numbers(self, tasks: Any) -> List[int]:
-        return [self.number[task] for task in (tasks if isinstance(tasks, list) else tasks.tolist())]
+MOST = 10_000
+"""How much is searched for plans of graphs."""
 
 
-def ways(kind: Callable[..., Any], drawn: Drawn, draw: Random) -> Named:
-    """From 1, from 0, or by names."""
-    count, columns, way = len(drawn.before), dict(drawn.columns), draw.randrange(3)
-    base, names = (0, list(range(count))) if way == 1 else (1, list(range(1, count + 1)))
-    if way == 1:
-        if "parent" in columns:
-            columns["parent"] = [parent - 1 for parent in columns["parent"]]
-        if "items" in columns:
-            columns["items"] = [(size, None if p == 0 else p - 1, {it - 1 for it in readers}) for size, p, readers in columns["items"]]
-    if way == 2:
-        names = [draw.choice([f"align_{at}", (at, "part")]) for at in range(count)]
-    return Named(kind(**columns, base=base, **({"names": names} if way == 2 else {})), names)
-
-
-class Against(Case):
-    """What the program prints is made again from what a method gives."""
-
-    option: str
+class Works(Against):
     kind: Any
-    draw_work: Any
-    case: str
+    drawn_work: Callable[[Random], Drawn]
 
-    def cases(self) -> Iterator[Tuple[Drawn, Named, List[int], Random]]:
-        for seed in range(SEEDS):
-            draw = Random(f"{self.option} {seed}")
-            drawn = self.draw_work(draw)
-            self.case = f"seed {seed}: {drawn.text}"
-            yield drawn, ways(self.kind, drawn, draw), drawn_order(draw, drawn.before), draw
+    def inputs(self, share: int) -> Iterator[Input]:
+        for draw in self.draws(share):
+            drawn = self.drawn_work(draw)
+            self.case += f": {drawn.text}"
+            yield Input(drawn, ways(self.kind, drawn, draw), drawn_order(draw, drawn.before), draw)
 
-    def _formatMessage(self, msg: Any, standardMsg: str) -> str:
-        return f"{super()._formatMessage(msg, standardMsg)}\n{self.case}"
 
-    def says_of(self, drawn: Drawn, command: str, *words: object, **files: str) -> Any:
-        return program(command, *words, **{self.option: drawn.text, **files})
+class Trees(Works):
+    option, kind, drawn_work = "tree", Tree, staticmethod(drawn_tree)
 
-    def check_common(self) -> None:
-        for drawn, it, order, draw in self.cases():
-            self.assertEqual(it.work.names, it.names)
-            self.check_replay(drawn, it, order)
-            peak = it.work.replay(it.told(order))
-            bound, workers = peak + draw.choice([0, 3, 50]), draw.randint(1, 4)
-            self.check_run(drawn, it, order, bound, workers, draw)
-            self.check_fences(drawn, it, order, bound, draw.choice([None, workers]))
-            self.check_wrong(drawn, it, order, peak, draw)
+    def test_what_the_program_says(self) -> None:
+        for one in self.inputs(40):
+            self.check_common(one)
+            self.check_plans(one)
+            self.check_disks_and_segments(one)
+            self.check_calls(one)
+            self.check_core(one)
+            self.check_none(one)
 
-    def check_replay(self, drawn: Drawn, it: Named, order: List[int]) -> None:
-        self.assertEqual(f"peak {it.work.replay(it.told(order))}\n", self.says_of(drawn, "replay", order=listed(order)).report)
+    def check_plans(self, one: Input) -> None:
+        drawn, it, order, _ = one
+        plan = it.work.plan(evidence=True)
+        self.assertEqual(self.plan_text(it, plan, 1), self.says_of(drawn.text, "plan").report)
+        it.work.check(plan)
+        self.assertEqual((it.numbers(it.work.plan().order), it.work.plan().peak), (it.numbers(plan.order), plan.peak))
+        best, peak = it.work.post()
+        text = f"peak {peak}\norder {len(best)}\n{listed(it.numbers(best))}end\n"
+        self.assertEqual(text, self.says_of(drawn.text, "post").report)
+        fewer = plan._replace(evidence=type(plan.evidence)(*(column[:-1] for column in plan.evidence)))
+        for other in (plan._replace(order=it.told(order)), fewer):
+            said = self.says_of(drawn.text, "check", plan=self.plan_text(it, other, 1))
+            self.refused_alike(it.work.check, (other,), said)
 
-    def check_run(self, drawn: Drawn, it: Named, order: List[int], bound: int, workers: int, draw: Random) -> None:
-        ranked = draw.sample(order, len(order))
-        priority, files = draw.choice([(None, {}), (it.told(ranked), {"priority": listed(ranked)})])
-        run: Simulation = it.work.simulate(it.told(order), bound, workers, priority)
-        events = [f"{time} {what} {task}\n" for time, what, task in zip(run.time, run.what, it.numbers(run.task))]
-        head = f"makespan {run.makespan}\nused {run.used}\nbooked {run.booked}\nevents {len(events)}\n"
-        wanted = self.says_of(drawn, "simulate", "--bound", bound, "--workers", workers, order=listed(order), **files)
-        self.assertEqual(head + "".join(events) + "end\n", wanted.report)
-
-    def check_fences(self, drawn: Drawn, it: Named, order: List[int], bound: int, workers: Any) -> None:
-        fences: Fences = it.work.fence(it.told(order), bound, workers)
-        words = () if workers is None else ("--workers", workers)
-        wanted = self.says_of(drawn, "fence", "--bound", bound, *words, order=listed(order)).report
-        self.assertEqual(self.fences_text(it, fences), wanted)
-        it.work.check_fences(fences)
-        if len(fences.amounts):
-            wrong = fences._replace(amounts=[*map(int, fences.amounts[:-1]), 2**61])
-            self.assert_refused(drawn, it.work.check_fences, (wrong,), "check", fences=self.fences_text(it, wrong))
-
-    def fences_text(self, it: Named, fences: Fences) -> str:
-        joins = {join: len(it.names) + at for at, join in enumerate(fences.joins, 1)}
-        pairs = [(joins[a] if isinstance(a, Readers) else it.number[a], it.number[b]) for a, b in fences.pairs]
-        return (
-            f"fences 1\nbound {fences.bound}\nworkers {fences.workers or 0}\nroom {fences.room}\njoins {len(joins)}\n"
-            + listed([join.item + 1 for join in joins])
-            + f"fences {len(pairs)}\n"
-            + listed([f"{a} {b}" for a, b in pairs])
-            + f"amounts {len(fences.amounts)}\n{listed(list(map(int, fences.amounts)))}end\n"
-        )
-
-    def check_wrong(self, drawn: Drawn, it: Named, order: List[int], peak: int, draw: Random) -> None:
-        """Orders that are none, and a bound below the peak."""
-        if peak:
-            told = it.told(order), peak - 1, 2
-            self.assert_refused(drawn, it.work.simulate, told, "simulate", "--bound", peak - 1, "--workers", 2, order=listed(order))
-            self.assert_refused(drawn, it.work.fence, told[:2], "fence", "--bound", peak - 1, order=listed(order))
-        wrong = draw.choice([order[::-1], order[1:], [*order, *order[:1]], [*order[:2], 99, *order[2:]]])
-        told = ([it.names[task - 1] if task < 99 else 99 for task in wrong],)
-        self.assert_refused(drawn, it.work.replay, told, "replay", order=listed(wrong), of=wrong, it=it)
-
-    def assert_refused(
-        self, drawn: Drawn, call: Any, told: Any, command: str, *words: object, of: Any = (), it: Any = None, **files: str
-    ) -> None:
-        """The call is refused just where the program refuses, with its status, its numbers and the task's name."""
-        wanted = self.says_of(drawn, command, *words, **files)
-        try:
-            call(*told)
-        except TaskRefused as refusal:
-            first = wanted.report.split("\n")[0].split()
-            self.assertEqual(refusal.status, wanted.status)
-            numbers = [int(token) for token in first if token.isdigit()]
-            self.assertTrue({refusal.at, refusal.value} - {0} <= set(numbers), (first, refusal.at, refusal.value))
-            self.assertIn(refusal.reason, " ".join(token for token in first if not token.isdigit()))
-            if of and first[1] == "order":
-                at = numbers[0] - 1
-                task = it.names[of[at] - 1] if at < len(of) and of[at] < 99 else None
-                self.assertEqual(refusal.task, task)
+    def check_disks_and_segments(self, one: Input) -> None:
+        drawn, it, order, draw = one
+        bound = draw.randint(0, it.work.replay(it.told(order)))
+        said = self.says_of(drawn.text, "spill", "--bound", bound, order=listed(order))
+        columns = [drawn.columns[name] for name in ("parent", "out", "extra")]
+        if said.status:
+            self.refused_alike(it.work.spill, (it.told(order), bound), said)
+            self.refused_alike(memplan.spill, (*columns, order, bound, drawn.columns["share"]), said)
         else:
-            self.assertEqual(wanted.status, 0, wanted)
+            spill = it.work.spill(it.told(order), bound)
+            self.assertEqual(spill_text(spill.volume, spill.amounts), said.report)
+            amounts, volume = memplan.spill(*columns, given(draw, order), bound, share=drawn.columns["share"])
+            self.assertEqual(spill_text(volume, amounts), said.report)
+        segments = it.work.segments()
+        self.assertEqual(list(segments), it.names)
+        self.assertEqual(self.segments_text(list(segments.values())), self.says_of(drawn.text, "segments").report)
 
-    def plan_text(self, it: Named, plan: Plan, version: int) -> str:
-        """Of a plan without a ranking."""
-        lines = [f"plan {version}", f"order {len(plan.order)}", *map(str, it.numbers(plan.order)), f"peak {plan.peak}"]
-        lines += [f"bound {plan.bound}"] if version == 3 else []
-        evidence = plan.evidence
-        if isinstance(evidence, Need):
-            lines.append(f"need {0 if evidence.task is None else it.number[evidence.task]}")
-        elif isinstance(evidence, Blockers):
-            lines += [f"{'last' if evidence.last else 'first'} {len(evidence.blockers)}", f"base {len(evidence.base)}"]
-            lines += [f"{use} {amount}" for use, amount in evidence.base]
-            for task, amounts in evidence.blockers:
-                lines += [f"blocker {it.number[task]} {len(amounts)}", *(f"{use} {amount}" for use, amount in amounts)]
-        elif evidence is not None and hasattr(evidence, "many"):
-            lines.append(f"states {evidence.many}")
-        else:
-            lines.append(f"claims {len(evidence.position)}")  # type: ignore[union-attr]
-            lines += [f"{p} {'FR'[b]} {bound} {rest}" for p, b, bound, rest in zip(*evidence)]  # type: ignore[misc]
-        return "\n".join([*lines, "end", ""])
+    def check_calls(self, one: Input) -> None:
+        drawn, _, order, draw = one
+        columns = [given(draw, drawn.columns[name]) for name in ("parent", "out", "extra")]
+        share = given(draw, drawn.columns["share"])
+        made, peak = memplan.plan(*columns, share)
+        certificate = memplan.certify(*columns, share)
+        self.assertEqual((list(made), peak), (list(certificate.order), certificate.peak))
+        self.assertEqual(certificate_text(certificate), self.says_of(drawn.text, "plan").report)
+        memplan.check(*columns, certificate, share)
+        best, highest = memplan.best_postorder(*columns, share)
+        text = f"peak {highest}\norder {len(best)}\n{listed(best)}end\n"
+        self.assertEqual(text, self.says_of(drawn.text, "post").report)
+        self.assertEqual(f"peak {memplan.replay(*columns, order, share)}\n", self.says_of(drawn.text, "replay", order=listed(order)).report)
+        wrong = wrong_order(draw, order)
+        said = self.says_of(drawn.text, "replay", order=listed(wrong))
+        self.refused_alike(memplan.replay, (*columns, given(draw, wrong), share), said)
+        for other in (certificate._replace(peak=peak + 1), certificate._replace(order=order), altered(draw, certificate)):
+            said = self.says_of(drawn.text, "check", plan=certificate_text(other))
+            self.refused_alike(memplan.check, (*columns, other, share), said)
 
-    def segments_text(self, segments: List[Segments]) -> str:
-        lines = [f"segments {len(segments)}"]
-        for number, it in enumerate(segments, 1):
-            for letter, stairs in (("F", it.forward), ("R", it.backward)):
-                lines.append(" ".join(map(str, [number, letter, stairs.level, *(n for step in stairs.steps for n in step)])))
-        return "\n".join([*lines, "end", ""])
-
-
-class Trees(Against):
-    option, kind, draw_work = "tree", Tree, staticmethod(drawn_tree)
-
-    def test_the_commands_that_all_have(self) -> None:
-        self.check_common()
-
-    def test_plans(self) -> None:
-        for drawn, it, order, _ in self.cases():
-            plan = it.work.plan(evidence=True)
-            self.assertEqual(self.plan_text(it, plan, 1), self.says_of(drawn, "plan").report)
-            it.work.check(plan)
-            self.assertEqual((it.numbers(it.work.plan().order), it.work.plan().peak), (it.numbers(plan.order), plan.peak))
-            best, peak = it.work.post()
-            text = f"peak {peak}\norder {len(best)}\n{listed(it.numbers(best))}end\n"
-            self.assertEqual(text, self.says_of(drawn, "post").report)
-            other = plan._replace(order=it.told(order))
-            self.assert_refused(drawn, it.work.check, (other,), "check", plan=self.plan_text(it, other, 1))
-            if len(plan.evidence.position):
-                fewer = plan._replace(evidence=type(plan.evidence)(*(column[:-1] for column in plan.evidence)))
-                self.assert_refused(drawn, it.work.check, (fewer,), "check", plan=self.plan_text(it, fewer, 1))
-
-    def test_disks_and_segments(self) -> None:
-        for drawn, it, order, draw in self.cases():
-            bound = draw.randint(0, it.work.replay(it.told(order)))
-            said = self.says_of(drawn, "spill", "--bound", bound, order=listed(order))
+    def check_core(self, one: Input) -> None:
+        drawn, _, order, draw = one
+        columns, share = [drawn.columns[name] for name in ("parent", "out", "extra")], drawn.columns["share"]
+        peak, workers = memplan.replay(*columns, order, share), draw.randint(1, 3)
+        for bound in (peak + draw.choice([0, 2, 20]), max(peak - 1, 0)):
+            said = self.says_of(drawn.text, "simulate", "--bound", bound, "--workers", workers, order=listed(order))
+            told = (*columns, order, bound, workers, share)
             if said.status:
-                self.assert_refused(drawn, it.work.spill, (it.told(order), bound), "spill", "--bound", bound, order=listed(order))
+                self.refused_alike(memplan.Core.of_tree, told, said)
             else:
-                spill = it.work.spill(it.told(order), bound)
-                items = [f"{node} {amount}" for node, amount in enumerate(spill.amounts, 1) if amount]
-                self.assertEqual(f"volume {spill.volume}\nitems {len(items)}\n{listed(items)}end\n", said.report)
-            segments: Dict[Any, Segments] = it.work.segments()
-            self.assertEqual(list(segments), it.names)
-            self.assertEqual(self.segments_text(list(segments.values())), self.says_of(drawn, "segments").report)
+                core = memplan.Core.of_tree(*told)
+                self.assertEqual(simulated(core, order, drawn.columns["time"], workers), said.report)
+
+    def check_none(self, one: Input) -> None:
+        """Trees with one number that may be wrong."""
+        drawn, _, order, draw = one
+        columns: Dict[str, List[int]] = {name: list(values) for name, values in drawn.columns.items()}
+        at, name = draw.randrange(len(order)), draw.choice(["parent", "out", "extra", "share"])
+        columns[name][at] = draw.choice([0, at + 1, len(order) + 1, 40, 2**40, 2**40 + 1]) if name != "parent" else draw.randint(0, 13)
+        said = self.says_of(tree_text(columns), "post")
+        told = [columns[it] for it in ("parent", "out", "extra", "share")]
+        self.refused_alike(memplan.best_postorder, told, said)
+        self.refused_alike(memplan.plan, told, said)
+        tree = Tree(**columns)
+        self.refused_alike(tree.post, (), said)
+        self.refused_alike(tree.segments, (), said)
 
 
-class Graphs(Against):
-    option, kind, draw_work = "graph", Graph, staticmethod(drawn_graph)
+def certificate_text(it: Certificate) -> str:
+    return "\n".join(["plan 1", f"order {len(it.order)}", *map(str, it.order), f"peak {it.peak}", *claim_lines(it.claims), "end", ""])
 
-    def test_the_commands_that_all_have(self) -> None:
-        self.check_common()
 
-    def test_plans_and_bounds(self) -> None:
-        for drawn, it, order, _ in self.cases():
-            effort = 10_000
-            for start, files in ((None, {}), (order, {"order": listed(order)})):
-                if start == []:
-                    continue
-                begun = None if start is None else it.told(start)
-                plan = it.work.plan(begun, effort, evidence=True)
-                self.assertEqual(self.plan_text(it, plan, 3), self.says_of(drawn, "plan", "--effort", effort, **files).report)
-                it.work.check(plan, workers=2)
-                short = it.work.plan(begun, effort)
-                self.assertEqual((it.numbers(short.order), *short[1:4]), (it.numbers(plan.order), plan.peak, plan.bound, None))
-                low = plan._replace(peak=plan.peak + 1)
-                self.assert_refused(drawn, it.work.check, (low,), "check", plan=self.plan_text(it, low, 3))
-                found = it.work.bound(begun, effort)
-                head = "" if found.peak is None else f"peak {found.peak}\n"
-                text = self.plan_text(it, Plan([], 0, found.bound, found.evidence), 3)
-                wanted = self.says_of(drawn, "bound", "--effort", effort, **files).report
-                self.assertEqual(head + text[text.index("bound ") :], wanted)
+def altered(draw: Random, certificate: Certificate) -> Certificate:
+    """With one claim that says a little more, or is left out."""
+    if not certificate.claims:
+        return certificate
+    claims: List[Any] = list(certificate.claims)
+    at = draw.randrange(len(claims))
+    position, backward, bound, rest = claims.pop(at)
+    if draw.random() < 0.7:
+        claims.insert(at, (position, backward, bound + draw.randint(0, 2), rest + draw.randint(0, 1)))
+    return certificate._replace(claims=claims)
 
-    def test_what_goes_to_disk(self) -> None:
-        for drawn, it, order, draw in self.cases():
-            bound = draw.randint(0, it.work.replay(it.told(order)))
-            said = self.says_of(drawn, "spill", "--bound", bound, order=listed(order))
-            if said.status:
-                self.assert_refused(drawn, it.work.spill, (it.told(order), bound), "spill", "--bound", bound, order=listed(order))
-                continue
-            spill: Gaps = it.work.spill(it.told(order), bound)
-            gaps = [f"{item + 1} {0 if reader is None else it.number[reader]} {amount}" for item, reader, amount in spill.gaps]
-            self.assertEqual(f"volume {spill.volume}\ngaps {len(gaps)}\n{listed(gaps)}end\n", said.report)
 
-    def test_reductions(self) -> None:
+class Graphs(Works):
+    option, kind, drawn_work = "graph", Graph, staticmethod(drawn_graph)
+
+    def test_what_the_program_says(self) -> None:
         reduced = 0
-        for drawn, it, order, _ in self.cases():
-            said = self.says_of(drawn, "reduce")
-            if said.status:
-                self.assert_refused(drawn, it.work.reduce, (), "reduce")
-                continue
-            reduced += 1
-            workflow = it.work.reduce()
-            names = [name if it.number.get(name) else f"join {len(order) + name.number}" for name in workflow.names]
-            told = [f"# {at} {it.number.get(name, str(name).replace('join ', ''))}" for at, name in enumerate(names, 1)]
-            self.assertEqual(Workflow(workflow.positions).text() + listed(told), said.report)
-            kept = [task for task in workflow.plan().order if it.number.get(task)]
-            self.assertEqual(it.work.replay(kept), it.work.plan().peak)
-        self.assertGreater(reduced, SEEDS // 8)
+        for one in self.inputs(25):
+            self.check_common(one)
+            for start in (None, one.order):
+                self.check_plans(one, start)
+            self.check_disks(one)
+            reduced += self.check_reduction(one)
+            self.check_calls(one)
+            self.check_systems(one)
+        self.assertGreater(reduced, INPUTS // 40)
+
+    def check_plans(self, one: Input, start: Any) -> None:
+        drawn, it, _, _ = one
+        if start == []:
+            return
+        begun, files = (None, {}) if start is None else (it.told(start), {"order": listed(start)})
+        plan = it.work.plan(begun, MOST, evidence=True)
+        self.assertEqual(self.plan_text(it, plan, 3), self.says_of(drawn.text, "plan", "--effort", MOST, **files).report)
+        it.work.check(plan, workers=2)
+        short = it.work.plan(begun, MOST)
+        self.assertEqual((it.numbers(short.order), *short[1:4]), (it.numbers(plan.order), plan.peak, plan.bound, None))
+        low = plan._replace(peak=plan.peak + 1)
+        self.refused_alike(it.work.check, (low,), self.says_of(drawn.text, "check", plan=self.plan_text(it, low, 3)))
+        found = it.work.bound(begun, MOST)
+        head = "" if found.peak is None else f"peak {found.peak}\n"
+        text = self.plan_text(it, Plan([], 0, found.bound, found.evidence), 3)
+        wanted = self.says_of(drawn.text, "bound", "--effort", MOST, **files).report
+        self.assertEqual(head + text[text.index("bound ") :], wanted)
+
+    def check_disks(self, one: Input) -> None:
+        drawn, it, order, draw = one
+        bound = draw.randint(0, it.work.replay(it.told(order)))
+        said = self.says_of(drawn.text, "spill", "--bound", bound, order=listed(order))
+        if said.status:
+            self.refused_alike(it.work.spill, (it.told(order), bound), said)
+            return
+        spill: Gaps = it.work.spill(it.told(order), bound)
+        gaps = [f"{item + 1} {0 if reader is None else it.number[reader]} {amount}" for item, reader, amount in spill.gaps]
+        self.assertEqual(f"volume {spill.volume}\ngaps {len(gaps)}\n{listed(gaps)}end\n", said.report)
+
+    def check_reduction(self, one: Input) -> bool:
+        """Whether there is one."""
+        drawn, it, order, _ = one
+        said = self.says_of(drawn.text, "reduce")
+        if said.status:
+            self.refused_alike(it.work.reduce, (), said)
+            return False
+        workflow = it.work.reduce()
+        names = [name if it.number.get(name) else f"join {len(order) + name.number}" for name in workflow.names]
+        told = [f"# {at} {it.number.get(name, str(name).replace('join ', ''))}" for at, name in enumerate(names, 1)]
+        self.assertEqual(Workflow(workflow.positions).text() + listed(told), said.report)
+        kept = [task for task in workflow.plan().order if it.number.get(task)]
+        self.assertEqual(it.work.replay(kept), it.work.plan().peak)
+        return True
+
+    def check_calls(self, one: Input) -> None:
+        """Of the same graph without shares, which the calls on arrays do not take."""
+        drawn, _, order, draw = one
+        extra, items, time = (drawn.columns[name] for name in ("extra", "items", "time"))
+        text = graph_text(extra, items, [0] * len(extra), time)
+        shared = [draw.choice([SharedItem, lambda *it: it])(size, producer, given(draw, readers)) for size, producer, readers in items]
+        peak = memplan.replay_shared(given(draw, extra), shared, given(draw, order))
+        self.assertEqual(f"peak {peak}\n", self.says_of(text, "replay", order=listed(order)).report)
+        start = draw.choice([None, order]) if order else None
+        plan = memplan.plan_shared(extra, shared, start, MOST)
+        files = {} if start is None else {"order": listed(start)}
+        lines = self.says_of(text, "plan", "--effort", MOST, **files).report.split("\n")
+        wanted = ["plan 3", f"order {len(plan.order)}", *map(str, plan.order), f"peak {plan.peak}", f"bound {plan.bound}"]
+        self.assertEqual(wanted, lines[: len(wanted)])
+        wrong = wrong_order(draw, order)
+        said = self.says_of(text, "replay", order=listed(wrong))
+        self.refused_alike(memplan.replay_shared, (extra, shared, wrong), said)
+        if wrong:
+            self.refused_alike(memplan.plan_shared, (extra, shared, wrong, MOST), said)
+        self.check_core(text, (extra, shared), memplan.Core.of_shared, peak, one)
+
+    def check_systems(self, one: Input) -> None:
+        """Of items that one task reads at most."""
+        drawn, _, order, draw = one
+        extra, time = drawn.columns["extra"], drawn.columns["time"]
+        items = [(size, producer, readers[:1]) for size, producer, readers in drawn.columns["items"]]
+        text = graph_text(extra, items, [0] * len(extra), time)
+        rows = [draw.choice([tuple, list])([size, producer, *(readers or [0])]) for size, producer, readers in items]
+        peak = memplan.replay_system(extra, rows, order)
+        self.assertEqual(f"peak {peak}\n", self.says_of(text, "replay", order=listed(order)).report)
+        self.check_core(text, (extra, rows), memplan.Core.of_system, peak, one)
+
+    def check_core(self, text: str, work: Tuple[Any, Any], begin: Any, peak: int, one: Input) -> None:
+        drawn, _, order, draw = one
+        bound, workers = max(peak + draw.choice([-1, 0, 2, 20]), 0), draw.randint(1, 3)
+        said = self.says_of(text, "simulate", "--bound", bound, "--workers", workers, order=listed(order))
+        if said.status:
+            self.refused_alike(begin, (*work, order, bound, workers), said)
+        else:
+            self.assertEqual(simulated(begin(*work, order, bound, workers), order, drawn.columns["time"], workers), said.report)
 
 
-class Workflows(Against):
-    option, kind, draw_work = "workflow", Workflow, staticmethod(drawn_workflow)
+class Workflows(Works):
+    option, kind, drawn_work = "workflow", Workflow, staticmethod(drawn_workflow)
 
-    def test_the_commands_that_all_have(self) -> None:
-        self.check_common()
+    def test_what_the_program_says(self) -> None:
+        for one in self.inputs(15):
+            self.check_common(one)
+            self.check_plans_disks_and_segments(one)
 
-    def test_plans_disks_and_segments(self) -> None:
-        for drawn, it, order, draw in self.cases():
-            plan = it.work.plan()
-            self.assertEqual(self.plan_text(it, plan, 1), self.says_of(drawn, "plan").report)
-            it.work.check(plan)
-            other = plan._replace(order=it.told(order))
-            self.assert_refused(drawn, it.work.check, (other,), "check", plan=self.plan_text(it, other, 1))
-            self.assertEqual(self.segments_text(it.work.segments()), self.says_of(drawn, "segments").report)
-            bound = draw.randint(0, it.work.replay(it.told(order)))
-            said = self.says_of(drawn, "spill", "--bound", bound, order=listed(order))
-            if said.status:
-                self.assert_refused(drawn, it.work.spill, (it.told(order), bound), "spill", "--bound", bound, order=listed(order))
+    def check_plans_disks_and_segments(self, one: Input) -> None:
+        drawn, it, order, draw = one
+        plan = it.work.plan()
+        self.assertEqual(self.plan_text(it, plan, 1), self.says_of(drawn.text, "plan").report)
+        it.work.check(plan)
+        other = plan._replace(order=it.told(order))
+        self.refused_alike(it.work.check, (other,), self.says_of(drawn.text, "check", plan=self.plan_text(it, other, 1)))
+        self.assertEqual(self.segments_text(it.work.segments()), self.says_of(drawn.text, "segments").report)
+        bound = draw.randint(0, it.work.replay(it.told(order)))
+        said = self.says_of(drawn.text, "spill", "--bound", bound, order=listed(order))
+        if said.status:
+            self.refused_alike(it.work.spill, (it.told(order), bound), said)
+        else:
+            spill = it.work.spill(it.told(order), bound)
+            self.assertEqual(spill_text(spill.volume, spill.amounts), said.report)
+
+
+class Matrices(Against):
+    option = "matrix"
+
+    def test_what_the_program_says(self) -> None:
+        for draw in self.draws(20):
+            matrix = drawn_matrix(draw)
+            self.case += f": {matrix.text}"
+            order = draw.choice([None, draw.sample(range(matrix.count), matrix.count)])
+            shape, in_place = draw.choice(["triangle", "square"]), draw.choice([True, False])
+            zeros = draw.choice([None, None, 0, 1, 5])
+            words: List[object] = ["--shape", shape, "--inplace", "yes" if in_place else "no"]
+            words += [] if zeros is None else ["--amalgamate", zeros]
+            words += ["--ordering", "mindeg"] if order is None else []
+            files = {} if order is None else {"perm": listed([column + 1 for column in order])}
+            pattern = given(draw, matrix.starts), given(draw, matrix.rows)
+            told = None if order is None else given(draw, order)
+            made = memplan.fronts(pattern, told, shape, in_place, zeros)
+            names = ("parent", "out", "extra", "share")
+            columns = {name: list(map(int, getattr(made, name))) for name in names}
+            text = tree_text({**columns, "time": list(map(int, made.columns))}, 2 if any(made.share) else 1)
+            self.assertEqual(text, self.says_of(matrix.text, "tree", *words, **files).report)
+            tree = Tree.of_matrix(pattern, told, shape, in_place, zeros, base=draw.randint(0, 1))
+            self.assertEqual((columns, list(made.columns)), ({name: list(getattr(tree, name)) for name in names}, list(tree.time)))
+            said = self.says_of(matrix.text, "columns", *words, **files).report.split("\n")[1:-2]
+            own = [list(map(int, line.split())) for line in said]
+            found = [[column + 1 for column in front] for front in map(list, tree.columns())]
+            if order is None or zeros is not None:  # ties of minimum degree, and branches in one front, come in any order
+                self.assertEqual(list(map(sorted, found)), list(map(sorted, own)))
             else:
-                spill = it.work.spill(it.told(order), bound)
-                items = [f"{item} {amount}" for item, amount in enumerate(spill.amounts, 1) if amount]
-                self.assertEqual(f"volume {spill.volume}\nitems {len(items)}\n{listed(items)}end\n", said.report)
+                self.assertEqual(found, own)
+            self.check_elimination(draw, tree, Tree.of_matrix(pattern, told))
+            if zeros is None:
+                self.check_rows(draw, matrix.text, tree, [column - 1 for front in own for column in front])
+
+    @unittest.skipUnless(io, "there is no scipy")
+    def test_a_matrix_file_by_scipy(self) -> None:
+        path = TOP / "examples/grid.mtx"
+        tree = Tree.of_matrix(io.mmread(path))
+        self.assertEqual(tree.text(), self.says_of(path.read_text(), "tree", "--ordering", "mindeg").report)
+
+    def check_elimination(self, draw: Random, tree: Tree, plain: Tree) -> None:
+        """The columns along a plan, or the best postorder, have the fronts that were not merged; numbers of these may be others."""
+        assert tree.pattern is not None
+        again = Tree.of_matrix(tree.pattern, tree.elimination(draw.choice([tree.plan().order, tree.post()[0]])))
+        fronts = [sorted((sorted(map(int, own)), size) for own, size in zip(it.columns(), it.extra)) for it in (plain, again)]
+        self.assertEqual(*fronts)
+
+    def check_rows(self, draw: Random, text: str, tree: Tree, placed: List[int]) -> None:
+        bound, workers = draw.randint(1, 30), draw.randint(1, 3)
+        files = {"perm": listed([column + 1 for column in placed])}
+        said = self.says_of(text, "fronts", "--bound", bound, "--workers", workers, **files)
+        if said.status:
+            self.refused_alike(tree.fronts, (bound, workers), said)
+            return
+        made = tree.fronts(bound, workers)
+        _, _, used, *lines, _, _ = said.report.split("\n")
+        base = tree.naming.base
+        rounds = [[front - 1 + base for front in map(int, line.split())] for line in lines[: len(made.rounds)]]
+        rows = [sorted(placed[int(place) - 1] for place in line.split()) for line in lines[len(made.rounds) :]]
+        self.assertEqual([list(it) for it in made.rounds], rounds)
+        self.assertEqual(([sorted(it) for it in map(list, made.rows)], f"used {made.used}"), (rows, used))
 
 
 if __name__ == "__main__":

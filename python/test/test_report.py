@@ -15,9 +15,9 @@ from pathlib import Path
 from random import Random
 from typing import Any, Dict, List
 
-from memplan import Graph, Plan, Simulation, TaskRefused, Tree, Workflow
+from memplan import Graph, Plan, Simulation, TaskRefused, Tree
 from samples import EXTRA, FORK, FORKED, OUT, PARENT, Case
-from works import drawn_graph, drawn_order, drawn_tree, drawn_workflow
+from works import drawn_tree, works
 
 try:
     import numpy
@@ -55,22 +55,17 @@ class Pages(Case):
 
 class Data(Pages):
     def test_columns_are_the_course(self) -> None:
-        for kind, drawn_work in ((Tree, drawn_tree), (Graph, drawn_graph), (Workflow, drawn_workflow)):
-            for seed in range(10):
-                draw = Random(f"{kind.__name__} {seed}")
-                drawn = drawn_work(draw)
-                order = drawn_order(draw, drawn.before)
-                work: Any = kind(**drawn.columns)
-                data = data_in(self.page(Plan(order, work.replay(order), 0), work))
-                self.assertEqual(column_in(data, "tasks"), order)
-                between, during = column_in(data, "between"), column_in(data, "during")
-                self.assertEqual(max([*between, *during]), work.replay(order), drawn.text)
-                system = _systems.system_of(work)
-                self.assertEqual(column_in(data, "size"), system.sizes.tolist())
-                columns = (column_in(data, name) for name in ("size", "birth", "death"))
-                rows = list(zip(*columns))
-                for at, level in enumerate(between):
-                    self.assertEqual(sum(size for size, start, end in rows if start <= at < end), level, drawn.text)
+        for work, drawn, order, _ in works(10):
+            data = data_in(self.page(Plan(order, work.replay(order), 0), work))
+            self.assertEqual(column_in(data, "tasks"), order)
+            between, during = column_in(data, "between"), column_in(data, "during")
+            self.assertEqual(max([*between, *during]), work.replay(order), drawn.text)
+            system = _systems.system_of(work)
+            self.assertEqual(column_in(data, "size"), system.sizes.tolist())
+            columns = (column_in(data, name) for name in ("size", "birth", "death"))
+            rows = list(zip(*columns))
+            for at, level in enumerate(between):
+                self.assertEqual(sum(size for size, start, end in rows if start <= at < end), level, drawn.text)
 
     def test_claims_stand_on_their_nodes(self) -> None:
         """What a claim says of all orders of a part is so of the least one."""

@@ -1,14 +1,16 @@
-"""Random trees, graphs and workflows, their texts as the tests write them, and runs of the program over these."""
+"""Random trees, graphs, workflows and matrices, their texts as the tests write them, and runs of the program over these."""
 
 from __future__ import annotations
 
-import subprocess
+import functools
+import os
 import tempfile
 from pathlib import Path
 from random import Random
-from typing import Any, Dict, List, NamedTuple, Sequence, Tuple
+from typing import Any, Callable, Dict, Iterator, List, Mapping, NamedTuple, Sequence, Tuple
 
-from memplan import _program
+from memplan import Graph, Tree, Workflow, _program
+from memplan._program import Ended
 
 TOP = Path(__file__).resolve().parents[2]
 PROGRAM = _program.find("test")
@@ -21,14 +23,35 @@ class Told(NamedTuple):
 
 def program(command: str, *words: object, **files: str) -> Told:
     """What the program says of texts, each told by the option of its name."""
-    with tempfile.TemporaryDirectory() as folder:
-        told = [PROGRAM, command, *map(str, words)]
-        for option, text in files.items():
-            path = Path(folder) / option
-            path.write_text(text)
-            told += [f"--{option}", str(path)]
-        done = subprocess.run(told, stdin=subprocess.DEVNULL, stdout=subprocess.PIPE, stderr=subprocess.DEVNULL)
-    return Told(done.returncode, done.stdout.decode())
+    ended = run(command, {f"--{option}": text.encode() for option, text in files.items()}, list(map(str, words)))
+    return Told(ended.status, ended.report.decode())
+
+
+def run(command: str, files: Mapping[str, bytes], words: Sequence[str] = ()) -> Ended:
+    """As `memplan._program.run`, for many runs on small texts; the same run is made once for a while."""
+    return _ended(command, tuple(words), tuple(sorted(files.items())))
+
+
+@functools.lru_cache(maxsize=100)
+def _ended(command: str, words: Tuple[str, ...], files: Tuple[Tuple[str, bytes], ...]) -> Ended:
+    folder = _folder().name
+    told = [PROGRAM, command, *words]
+    for option, text in files:
+        path = f"{folder}/{option[2:]}"
+        with open(path, "wb") as file:
+            file.write(text)
+        told += [option, path]
+    written = os.O_WRONLY | os.O_CREAT | os.O_TRUNC
+    actions: List[Any] = [(os.POSIX_SPAWN_OPEN, 0, os.devnull, os.O_RDONLY, 0)]
+    actions += [(os.POSIX_SPAWN_OPEN, 1, f"{folder}/out", written, 0o600), (os.POSIX_SPAWN_OPEN, 2, os.devnull, os.O_WRONLY, 0)]
+    _, status = os.waitpid(os.posix_spawn(PROGRAM, told, dict(os.environ), file_actions=actions), 0)
+    return Ended(os.WEXITSTATUS(status) if os.WIFEXITED(status) else -os.WTERMSIG(status), Path(f"{folder}/out").read_bytes())
+
+
+@functools.lru_cache(maxsize=None)
+def _folder() -> "tempfile.TemporaryDirectory[str]":
+    """In memory, if there is such a place: it is gone at the end."""
+    return tempfile.TemporaryDirectory(prefix="memplan-", dir="/dev/shm" if os.access("/dev/shm", os.W_OK) else None)
 
 
 class Drawn(NamedTuple):
@@ -54,9 +77,14 @@ def drawn_tree(draw: Random) -> Drawn:
     share = [draw.choice([0, min(taken[node], extra[node] + out[node])]) for node in range(count)]
     time = [draw.randint(1, 4) for _ in range(count)]
     columns = {"parent": parent, "out": out, "extra": extra, "share": share, "time": time}
-    lines = "".join(f"{' '.join(map(str, row))}\n" for row in zip(*columns.values()))
     before = [[child for child in range(1, count + 1) if parent[child - 1] == node] for node in range(1, count + 1)]
-    return Drawn(before, columns, f"tree 2\nnodes {count}\n{lines}end\n")
+    return Drawn(before, columns, tree_text(columns))
+
+
+def tree_text(columns: Mapping[str, Sequence[int]], version: int = 2) -> str:
+    names = ("parent", "out", "extra", *(("share",) if version == 2 else ()), "time")
+    lines = "".join(f"{' '.join(map(str, row))}\n" for row in zip(*(columns[name] for name in names)))
+    return f"tree {version}\nnodes {len(columns['parent'])}\n{lines}end\n"
 
 
 def drawn_graph(draw: Random) -> Drawn:
@@ -74,11 +102,15 @@ def drawn_graph(draw: Random) -> Drawn:
     extra = [draw.randint(0, 9) for _ in range(count)]
     share = [draw.choice([0, min(alone[task], extra[task] + made[task])]) for task in range(count)]
     time = [draw.randint(1, 4) for _ in range(count)]
+    before = [[producer for _, producer, readers in items if task in readers and producer] for task in range(1, count + 1)]
+    columns = {"extra": extra, "items": items, "share": share, "time": time}
+    return Drawn(before, columns, graph_text(extra, items, share, time))
+
+
+def graph_text(extra: Sequence[int], items: Sequence[Tuple[int, int, List[int]]], share: Sequence[int], time: Sequence[int]) -> str:
     rows = "".join(f"{a} {b} {c}\n" for a, b, c in zip(extra, share, time))
     lines = "".join(" ".join(map(str, (size, producer, *readers))) + "\n" for size, producer, readers in items)
-    before = [[producer for _, producer, readers in items if task in readers and producer] for task in range(1, count + 1)]
-    text = f"graph 2\ntasks {count}\n{rows}items {len(items)}\n{lines}end\n"
-    return Drawn(before, {"extra": extra, "items": items, "share": share, "time": time}, text)
+    return f"graph 2\ntasks {len(extra)}\n{rows}items {len(items)}\n{lines}end\n"
 
 
 def drawn_workflow(draw: Random) -> Drawn:
@@ -111,6 +143,40 @@ def drawn_workflow(draw: Random) -> Drawn:
         positions.append(("par", len(stack)))
     lines = "".join(f"{' '.join(map(str, position))}\n" for position in positions)
     return Drawn(before, {"positions": positions}, f"workflow 2\ntasks {len(before)}\n{lines}end\n")
+
+
+KINDS: Tuple[Tuple[Any, Callable[[Random], Drawn]], ...] = ((Tree, drawn_tree), (Graph, drawn_graph), (Workflow, drawn_workflow))
+
+
+def works(count: int) -> Iterator[Tuple[Any, Drawn, List[int], Random]]:
+    """So many random works of each kind, with an order of each, and where further numbers are drawn."""
+    for kind, drawn_work in KINDS:
+        for seed in range(count):
+            draw = Random(f"{kind.__name__} {seed}")
+            drawn = drawn_work(draw)
+            yield kind(**drawn.columns), drawn, drawn_order(draw, drawn.before), draw
+
+
+class Pattern(NamedTuple):
+    """The entries of a matrix, column by column, from 0, and its text."""
+
+    count: int
+    starts: List[int]
+    rows: List[int]
+    text: str
+
+
+def drawn_matrix(draw: Random) -> Pattern:
+    """One triangle, or entries anywhere, some of them twice or on the diagonal."""
+    count = draw.randint(1, 12)
+    pairs = [(draw.randrange(count), draw.randrange(count)) for _ in range(draw.randint(0, 3 * count))]
+    if draw.random() < 0.5:
+        pairs = [(max(pair), min(pair)) for pair in pairs]
+    columns = [[row for row, column in pairs if column == at] for at in range(count)]
+    rows = [row for column in columns for row in column]
+    starts = [sum(map(len, columns[:at])) for at in range(count + 1)]
+    lines = "".join(f"{row + 1} {column + 1}\n" for row, column in draw.sample(pairs, len(pairs)))
+    return Pattern(count, starts, rows, f"%%MatrixMarket matrix coordinate pattern general\n{count} {count} {len(pairs)}\n{lines}")
 
 
 def drawn_order(draw: Random, before: Sequence[Sequence[int]]) -> List[int]:

@@ -1,39 +1,10 @@
-"""Tasks on a Dask cluster that keep within a bound on memory. What may start is decided by memplan's core, which is proved."""
+"""The name that `memplan.dask` had before it was a part of the package; it is the same module, and so are those in it."""
 
-from .versions import require_dask
+import sys
+from importlib import import_module
 
-require_dask()  # before what follows takes names from Dask
+import memplan.dask
 
-from memplan.admission import BoundTooLow  # noqa: E402
-
-from .errors import (  # noqa: E402
-    AnnotationRefused,
-    EngineStopped,
-    ResultTooLarge,
-    RunError,
-    Standstill,
-    TaskFailed,
-    TasksInACycle,
-    UnbookedData,
-    WorkerLost,
-)
-from .runner import least_bound, run  # noqa: E402
-from .tasks import Task, dask_order, of_collection  # noqa: E402
-
-__all__ = [
-    "AnnotationRefused",
-    "BoundTooLow",
-    "EngineStopped",
-    "ResultTooLarge",
-    "RunError",
-    "Standstill",
-    "Task",
-    "TaskFailed",
-    "TasksInACycle",
-    "UnbookedData",
-    "WorkerLost",
-    "dask_order",
-    "least_bound",
-    "of_collection",
-    "run",
-]
+for name in ("errors", "inside", "placement", "remote", "runner", "tasks", "versions"):
+    sys.modules[f"{__name__}.{name}"] = import_module(f"memplan.dask.{name}")
+sys.modules[__name__] = memplan.dask

@@ -47,7 +47,7 @@ from typing import List, Tuple
 
 import memplan
 from memplan import Certificate, Core, Fences, Graph as Tasks, Plan, Simulation, Tree, Workflow
-from memplan.admission import Admission, BoundTooLow, Graph
+from memplan.admission import Admission, BoundTooLow, ResultGraph
 
 parent, out, extra = [2, 5, 4, 5, 0], (1, 5, 1, 5, 0), range(5)
 order, peak = memplan.plan(parent, out, extra)
@@ -59,7 +59,7 @@ fronts = memplan.fronts(([0, 3, 3], [1, 2, 3]), shape="square", zeros=4)
 memplan.plan(fronts.parent, fronts.out, fronts.extra, fronts.share)
 core = Core.of_tree(parent, out, extra, order, peak, 4)
 started: bool = core.start(core.activate())
-admission = Admission(Graph([(), {0}], [1, 2], [0, 0]), 3)
+admission = Admission(ResultGraph([(), {0}], [1, 2], [0, 0]), 3)
 tasks: List[int] = admission.ready()
 version: str = memplan.__version__
 tree = Tree(parent, out, extra, base=1, names=["a", "b", "c", "d", "e"])
@@ -179,8 +179,8 @@ class Wheel(unittest.TestCase):
 
     def test_it_has_the_packages_the_library_and_the_program(self) -> None:
         files = self.files()
-        whole = [*(TOP / "python/memplan").iterdir(), *(TOP / "integrations/dask/memplan_dask").iterdir()]
-        wanted = {f"{it.parent.name}/{it.name}": it.read_bytes() for it in whole if it.is_file()}
+        whole = [(above, it) for above in (TOP / "python", TOP / "integrations/dask") for it in above.glob("memplan*/**/*")]
+        wanted = {it.relative_to(above).as_posix(): it.read_bytes() for above, it in whole if it.is_file()}
         wanted[str(INSIDE)], wanted[str(RUN)] = LIBRARY.read_bytes(), PROGRAM.read_bytes()
         noted = f"memplan-{VERSION}.dist-info/"
         self.assertEqual({name: it for name, it in files.items() if not name.startswith(noted)}, wanted)
@@ -194,7 +194,7 @@ class Wheel(unittest.TestCase):
         self.assertEqual(files[record].decode().splitlines(), [*lines, f"{record},,"])
 
     def test_the_extras_are_what_was_tried(self) -> None:
-        runner = (TOP / "integrations/dask/memplan_dask/versions.py").read_text(encoding="utf-8")
+        runner = (TOP / "python/memplan/dask/versions.py").read_text(encoding="utf-8")
         (tried,) = re.findall(r'^TRIED = "(.*)"$', runner, re.MULTILINE)
         lines = self.files()[f"memplan-{VERSION}.dist-info/METADATA"].decode().splitlines()
         self.assertEqual([it for it in lines if it.startswith("Provides-Extra:")], ["Provides-Extra: dask", "Provides-Extra: plot"])

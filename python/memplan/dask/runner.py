@@ -7,11 +7,11 @@ import time
 import uuid
 from functools import partial
 from queue import Empty, SimpleQueue
-from typing import Any, Collection, Dict, List, Optional, Sequence, Tuple
+from typing import Any, Callable, Collection, Dict, List, Optional, Sequence, Tuple
 
 import dask
 from distributed import Client, Future
-from memplan.admission import Admission
+from ..admission import Admission
 
 from . import remote
 from .errors import EngineStopped, ResultTooLarge, Standstill, TaskFailed, WorkerLost, keys_told, named
@@ -51,6 +51,10 @@ def run(
     Raises `memplan.admission.BoundTooLow` where the bound is below the peak of the order, `memplan.Refused` where the order is none or a
     limit of the library is passed, `UnbookedData` where a task has a future or a Dask collection inside, and one of `errors` where the
     run fails. By then what ran has come to its end, and nothing is left.
+
+    >>> futures = run([Task(list, size=1000), Task(len, inputs=(0,), size=1000)], bound=2000, client=CLIENT)
+    >>> [(task, future.result()) for task, future in futures.items()]
+    [(1, 0)]
     """
     try:
         bound = operator.index(bound)
@@ -65,7 +69,11 @@ def run(
 def least_bound(
     tasks: Sequence[Task], client: Client, order: Optional[Sequence[int]] = None, workers: Optional[Sequence[str]] = None
 ) -> int:
-    """The least bound that `run` takes for these tasks on these workers."""
+    """The least bound that `run` takes for these tasks on these workers.
+
+    >>> least_bound([Task(list, size=1000), Task(len, inputs=(0,), size=1000)], CLIENT)
+    2000
+    """
     _check(tasks, client)
     if not tasks:
         return 0
@@ -158,13 +166,17 @@ class _Run:
 
     def _submit(self, task: int, worker: str) -> None:
         future = self._future_of(task, worker)
-        future.add_done_callback(lambda future: future.status == "finished" or self.events.put(("failed", task)))
+        future.add_done_callback(partial(self._ended, task))
         self.placement.start(task, worker, self.tasks[task].size)
         self.running[task] = worker
         self.futures[task] = future
         # The scheduler keeps what a task needs, and drops it as soon as that is done: no need to wait for word of it here.
         for result in self.admission.spent(task):
             self.futures.pop(result).release()
+
+    def _ended(self, task: int, future: Future) -> None:
+        if future.status != "finished":
+            self.events.put(("failed", task))
 
     def _future_of(self, task: int, worker: str) -> Future:
         function, arguments, inputs = self.tasks[task][:3]
@@ -201,7 +213,8 @@ class _Run:
 
     def _handle(self, event: Tuple[Any, ...]) -> None:
         what, *told = event
-        calls = {"entered": self._entered, "left": self._left, "failed": self._failed, "turned": self._turned, "lost": self._lost}
+        calls: Dict[str, Callable[..., None]] = {"entered": self._entered, "left": self._left, "failed": self._failed}
+        calls.update(turned=self._turned, lost=self._lost)
         calls[what](*told)
 
     def _entered(self, key: str, worker: str, size: int) -> None:
@@ -251,7 +264,7 @@ class _Run:
         """Whether a task of the run gets on, however long it may take, though nothing has been heard of it for so many seconds. A worker
         tells the scheduler every few seconds that it is there: one that has not for half this time has its interpreter held."""
         keys = [self._key_of(task) for task in self.running]
-        return self.client.run_on_scheduler(remote.mover(keys, list(self.placement.free), seconds / 2))
+        return bool(self.client.run_on_scheduler(remote.mover(keys, list(self.placement.free), seconds / 2)))
 
     def _standstill(self, seconds: float) -> Standstill:
         resting = self.placement.resting

@@ -6,7 +6,7 @@ import reprlib
 from contextlib import contextmanager
 from typing import Any, Dict, Hashable, Iterator, List, Mapping, Optional, Sequence
 
-from memplan import Refused
+from .. import Refused
 
 _FORMAT, _CYCLE = 3, 17
 """The status and the kind of `memplan.Refused` where tasks wait for each other."""

@@ -34,7 +34,7 @@ _NEEDED = {
 def require_dask(load: Callable[[str], Any] = import_module) -> None:
     """`ImportError` where this Dask is one that the package can do nothing with. ``load`` imports a module."""
     there = ", ".join(f"{name} {getattr(load(name), '__version__', '?')}" for name in ("dask", "distributed"))
-    tried = f"memplan_dask was tried with dask and distributed {TRIED} alone, and this is {there}"
+    tried = f"memplan.dask was tried with dask and distributed {TRIED} alone, and this is {there}"
     missing = [f"{module}.{name}" for module, names in _NEEDED.items() for name in names if not _has(load, module, name)]
     if missing:
         raise ImportError(f"{tried}, which has no {', no '.join(missing)}")
@@ -45,7 +45,7 @@ def require_dask(load: Callable[[str], Any] = import_module) -> None:
 def require_scheduler(lacking: Sequence[str]) -> None:
     """`ImportError` where a scheduler has not all the tables that a run uses; its version may be another one than the client's."""
     if lacking:
-        raise ImportError(f"memplan_dask was tried with distributed {TRIED} alone, and the scheduler has no {', no '.join(lacking)}")
+        raise ImportError(f"memplan.dask was tried with distributed {TRIED} alone, and the scheduler has no {', no '.join(lacking)}")
 
 
 def _has(load: Callable[[str], Any], module: str, name: str) -> bool:

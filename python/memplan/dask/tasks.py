@@ -3,7 +3,7 @@
 from __future__ import annotations
 
 from graphlib import CycleError, TopologicalSorter
-from typing import Any, Callable, Dict, Hashable, List, Mapping, NamedTuple, Optional, Sequence, Tuple
+from typing import Any, Callable, Dict, Hashable, List, Mapping, NamedTuple, Optional, Sequence, SupportsIndex, Tuple
 
 import dask
 import dask.order
@@ -12,7 +12,10 @@ from dask.core import flatten, get_dependencies
 from dask.highlevelgraph import HighLevelGraph, Layer
 from dask.optimization import SubgraphCallable
 from distributed import Future
-from memplan.admission import Graph
+from .._runs import steps_of
+from .._work import Ordered
+from ..admission import ResultGraph
+from ..graphs import Graph
 
 from .errors import AnnotationRefused, TasksInACycle, UnbookedData
 from .inside import unbooked
@@ -32,12 +35,29 @@ class Task(NamedTuple):
     key: Optional[Hashable] = None
 
 
+def of_graph(
+    graph: Graph, functions: Mapping[Any, Callable[..., Any]], order: Optional[Ordered] = None, unit: SupportsIndex = 1
+) -> List[Task]:
+    """The tasks of a graph, along an order of it or a plan, for ``order=range(len(tasks))``; without one as they are numbered.
+
+    ``functions`` has for each task what is called with the results that it reads, in the order of the graph's items. Each task leaves one
+    result at most, as those of `Graph.of_mapping`; one that no task reads stays. ``unit`` says how many bytes a unit of the graph's sizes
+    is. Shares are not counted: a task needs all of its extra.
+
+    >>> tasks = of_graph(DIAMOND, {"load": list, "count": len, "sort": sorted, "merge": lambda *parts: parts}, DIAMOND.plan(), unit=1000)
+    >>> [(task.key, task.inputs, task.size) for task in tasks]
+    [('load', (), 10000), ('count', (0,), 1000), ('sort', (0,), 10000), ('merge', (1, 2), 2000)]
+    """
+    steps = steps_of(graph, functions, order, unit)
+    return [Task(it.function, (), tuple(it.inputs), it.size, it.extra, False, it.name) for it in steps]
+
+
 def home_of(tasks: Sequence[Task], task: Task) -> Optional[int]:
     """The input at whose worker a task runs where results are copied between workers: its greatest."""
-    return max(task.inputs, key=lambda result: tasks[result].size, default=None)
+    return max(task.inputs, key=lambda result: tasks[result].size) if task.inputs else None
 
 
-def graph_of(tasks: Sequence[Task], others: int) -> Graph:
+def graph_of(tasks: Sequence[Task], others: int) -> ResultGraph:
     """The tasks for the core, where each result may be copied to so many other workers.
 
     A task fetches all of its inputs but the greatest. The copy of a result that it alone consumes goes when the task is finished, and is
@@ -45,7 +65,7 @@ def graph_of(tasks: Sequence[Task], others: int) -> Graph:
     """
     kept = [index for index, task in enumerate(tasks) if task.kept]
     inputs, sizes, extras = [task.inputs for task in tasks], [task.size for task in tasks], [task.extra for task in tasks]
-    plain = Graph(inputs, sizes, extras, kept)
+    plain = ResultGraph(inputs, sizes, extras, kept)
     copies = [0] * len(tasks)
     for index, task in enumerate(tasks):
         for result in set(task.inputs) - {home_of(tasks, task)}:
@@ -53,22 +73,26 @@ def graph_of(tasks: Sequence[Task], others: int) -> Graph:
                 extras[index] += min(others, 1) * tasks[result].size
             else:
                 copies[result] = min(others, copies[result] + 1)
-    return Graph(inputs, [size * (1 + copied) for size, copied in zip(sizes, copies)], extras, kept)
+    return ResultGraph(inputs, [size * (1 + copied) for size, copied in zip(sizes, copies)], extras, kept)
 
 
-def order_of(graph: Graph) -> List[int]:
+def order_of(graph: ResultGraph) -> List[int]:
     """An order of least peak where each result has one consumer; else a plan that begins with Dask's own order, and is never worse."""
     return graph.planned() if graph.is_forest else graph.planned_from(order_of_dask(graph))
 
 
-def order_of_dask(graph: Graph) -> List[int]:
+def order_of_dask(graph: ResultGraph) -> List[int]:
     """The order that Dask gives to such tasks."""
     ranks = dask.order.order(dict.fromkeys(range(len(graph.inputs))), {task: set(inputs) for task, inputs in enumerate(graph.inputs)})
     return sorted(ranks, key=ranks.__getitem__)
 
 
 def dask_order(tasks: Sequence[Task]) -> List[int]:
-    """The order in which Dask itself would take the tasks, for a run that is to keep to it."""
+    """The order in which Dask itself would take the tasks, for a run that is to keep to it.
+
+    >>> dask_order([Task(len, inputs=(1,), size=28), Task(list, size=100)])
+    [1, 0]
+    """
     refuse_cycles(tasks)
     return order_of_dask(graph_of(tasks, 0))
 
@@ -105,8 +129,13 @@ def of_collection(
     optimized first, together, so that small tasks are fused. ``sizes`` tells for each key of the graph that comes of it the size and the
     extra of its task.
 
-    Raises `AnnotationRefused` where a layer has annotations of the caller's, and `UnbookedData` where the graph has futures, as those of a collection do
-    that is persisted.
+    Raises `AnnotationRefused` where a layer has annotations of the caller's, and `UnbookedData` where the graph has futures, as that of a
+    collection has that is persisted.
+
+    >>> total = dask.delayed(sum)([1, 2], dask_key_name="total")
+    >>> tasks, rebuild = of_collection(total, lambda key: (28, 0))
+    >>> [(task.key, task.size) for task in tasks]
+    [('total', 28)]
     """
     given, repack = unpack_collections(collection)
     if not given:
