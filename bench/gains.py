@@ -181,7 +181,7 @@ def summary(found: list[Case]) -> list[list[str]]:
     rows = []
     for order, word in ORDERS.items():
         mine = [case for case in found if case.order == order]
-        for assembly, of in (("classic", "apart"), ("in place", "in_place")):
+        for assembly, of in (("out of place", "apart"), ("in place", "in_place")):
             peaks = [(case.matrix, getattr(case, of)) for case in mine]
             natural = sum(it.natural == it.least for _, it in peaks)
             best = sum(it.best == it.least for _, it in peaks)

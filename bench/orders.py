@@ -104,20 +104,19 @@ def by_metis(matrix: Path, folder: Path) -> Optional[Order]:
 
 
 def by_scotch(matrix: Path, folder: Path) -> Optional[Order]:
-    """Of the two columns behind the first line of an order the second one has the places."""
+    """What gord writes is taken as it is."""
     if not shutil.which("gord"):
         return None
-    graph, order, places = (folder / f"scotch.{it}" for it in ("grf", "ord", "iperm"))
+    graph, order = (folder / f"scotch.{it}" for it in ("grf", "ord"))
     output("gcv", "-im", "-os", matrix, graph)
     output("gord", graph, order)
     said = output("gotst", graph, order)
-    places.write_text(output("awk", "NR > 1 { print $2 }", order))
     reported = found(said, r"NNZ=(\S+)"), found(said, r"OPC=(\S+)")
 
     def told(fill: Fill) -> str:
         return f"{fill.entries:e}, {sum((it + 1) ** 2 for it in fill.columns):e}"
 
-    return Order("Scotch", ["--iperm", str(places)], ", ".join(reported), told)
+    return Order("Scotch", ["--iperm", str(order)], ", ".join(reported), told)
 
 
 def solver(folder: Path) -> Optional[Path]:
