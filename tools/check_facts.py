@@ -32,7 +32,9 @@ Finding = Tuple[str, dict, dict]  # a place, what stands there, and what has to
 
 STATUS_CODE, STATUS_SPECS = "crates/judging/src/status.rt", "crates/judging/specs/Statuses.antt"
 LIMIT_CODE, LIMIT_SPECS = "crates/limits/src/lib.rt", "crates/limits/specs/Limits.antt"
-HEADER, FORTRAN, PAGE = "c/memplan.h", "fortran/memplan.f90", "docs/FORMATS.md"
+HEADER, FORTRAN = "c/memplan.h", "fortran/memplan.f90"
+# The pages: of files, with the limits; of plans and fences; of reports, with the statuses.
+PAGE, PLANS, REPORTS = "docs/FORMATS.md", "docs/PLANS.md", "docs/REPORTS.md"
 PACKAGE, ADMISSION = "python/memplan/__init__.py", "python/memplan/admission.py"
 
 
@@ -194,8 +196,8 @@ class Facts:
         yield HEADER, header, {"DONE": said["DONE"], **calls}
         module = part_of(self.text(FORTRAN), "! Statuses.", "! Shapes.")
         yield FORTRAN, upper(numbers_in(module, r"memplan_(\w+) = (\d+)")), header
-        table = re.findall(r"^\| (\d+) \|", part_of(self.text(PAGE), "| status | when |", "\n\n"), re.M)
-        yield PAGE, {number: int(number) for number in table}, {str(number): number for number in said.values()}
+        table = re.findall(r"^\| (\d+) \|", part_of(self.text(REPORTS), "| status | when |", "\n\n"), re.M)
+        yield REPORTS, {number: int(number) for number in table}, {str(number): number for number in said.values()}
 
     def complaints(self) -> Iterator[Finding]:
         said = re.findall(r'Status::(\w+) => Some\("memplan: ([^"]*)"\)', part_of(self.text(STATUS_CODE), "pub fn complaint", "\n}"))
@@ -215,9 +217,14 @@ class Facts:
 
     # ---- kinds of refusals
 
+    def page_of(self, section: str) -> str:
+        """The page that has the section of a format."""
+        return PLANS if f"\n## {section}\n" in self.text(PLANS) else PAGE
+
     def words_on_page(self, section: str) -> List[str]:
         """What stands in the last column of the tables of tests of a section, but for limits."""
-        tables = re.findall(r"^\|[^\n]*\| else \|\n((?:\|[^\n]*\n)+)", part_of(self.text(PAGE), f"\n## {section}\n", "\n## "), re.M)
+        text = self.text(self.page_of(section)) + "\n## "
+        tables = re.findall(r"^\|[^\n]*\| else \|\n((?:\|[^\n]*\n)+)", part_of(text, f"\n## {section}\n", "\n## "), re.M)
         cells = [row.strip("| ").rpartition("|")[2].strip() for table in tables for row in table.splitlines()]
         return [word for cell in cells if not cell.startswith("limit") for word in re.findall(r"`([^`]+)`", cell)]
 
@@ -228,7 +235,7 @@ class Facts:
             code = dict(re.findall(rf'\b{it.kinds}::(\w+) => "([^"]+)"', self.text(it.code)))
             yield it.specs, dict(re.findall(rf'^{it.word} (?:\w+\.)?(\w+) = codes "([^"]+)"', self.text(it.specs), re.M)), code
             words = {word: it.name for word in code.values()}
-            yield f"{PAGE}, '{it.section}'", {word: it.name for word in self.words_on_page(it.section)}, words
+            yield f"{self.page_of(it.section)}, '{it.section}'", {word: it.name for word in self.words_on_page(it.section)}, words
             for name in (it.name, *(other for other, same in SAME_KINDS.items() if same == it.name)):
                 yield f"tools/explaining/formats.py, {name}", {word: it.name for kind, word in explained if kind == name}, words
                 yield f"tools/fuzz/judge.py, {name}", {word: it.name for word in expected.get(name, "").split()}, words
@@ -258,7 +265,8 @@ class Facts:
         wanted = {**self.most, "ZEROS": self.most_zeros()}
         table = part_of(self.text(PAGE), "| name | number | of |", "\n\n")
         yield PAGE, upper(numbers_in(table, r"^\| `(\w+)` \| ([^|]+) \|")), wanted
-        written = Counter(number for number in written_in(self.text(PAGE)) if number in wanted.values())
+        pages = "\n".join(self.text(page) for page in (PAGE, PLANS, REPORTS))
+        written = Counter(number for number in written_in(pages) if number in wanted.values())
         yield f"{PAGE}, which states each once", dict(written), dict(Counter(wanted.values()))
 
     def limits_of_calls(self) -> Iterator[Finding]:

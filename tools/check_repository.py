@@ -9,14 +9,18 @@ usage: check_repository.py [PROGRAM]
   `<!-- not run: REASON -->` on the line before it.
 - Each file or folder that a page names, in a link or as code, is in the repository; of other
   blocks each that stands in tools/, bench/, docs/ or examples/.
-- docs/PROVED.md names what is proved: each function and each clause of its tables stands in a public
-  contract of the crate; its table of a function has every clause of it, its table of a definition
-  every line of it with the words that the line cites, and its table of crates every crate of
+- No page is longer or wider than MOST_LINES, MOST_LINES_OF_README and MOST_COLUMNS say, but for tables and
+  listings.
+- README's figures are those of the pages that have them (FIGURES), and some page runs each command.
+- No page says a word of the last column of docs/WORDS.md, outside listings and code.
+- docs/PROVED.md and docs/PROVED_CRATES.md name what is proved: each function and each clause stands in
+  a public contract of the crate; the table of a function has every clause of it, the list of a
+  definition every line of it with the words that the line cites, and the list of crates every crate of
   crates.txt but those of tests.
 - docs/ARCHITECTURE.md lists the crates of each section of crates.txt, but those of tests, in their
   order, under a heading with the section's name.
 - docs/DEFINITIONS.md: each quoted block (```antt) stands in a file of specs/ as it is; the tables of
-  files have exactly what the contract of the top call reaches, and the examples that they name are
+  DEFINITION_TABLES have exactly what the contract of the top call reaches, and the examples that they name are
   computed in specs/.
 
 PROGRAM is the built program, crates/memplan/out/memplan if nothing else is said. It is there after
@@ -33,17 +37,41 @@ from pathlib import Path
 from typing import NamedTuple, Optional
 
 sys.dont_write_bytecode = True
-from make_crates import Listed  # noqa: E402: so that nothing is written beside it
+from commands import COMMANDS  # noqa: E402: so that nothing is written beside it
+from make_crates import Listed  # noqa: E402
 from reached_specs import TOP_CALL, reached_by  # noqa: E402
 
 ROOT = Path(__file__).resolve().parent.parent
 SECONDS = 60
 
-PROVED = "docs/PROVED.md"
+PROVED, PROVED_CRATES = "docs/PROVED.md", "docs/PROVED_CRATES.md"
 DEFINITIONS = "docs/DEFINITIONS.md"
+# The tables of files of definitions.
+DEFINITION_TABLES = ("docs/DEFINITION_FILES.md", "docs/PROGRAM_FILES.md")
 ARCHITECTURE = "docs/ARCHITECTURE.md"
+WORDS = "docs/WORDS.md"
 
 COMPLAINTS = {2: "usage", 6: "read fault", 7: "write fault", 8: "no memory"}
+# How many lines a page has at most, and how many columns its lines, but for tables and listings.
+MOST_LINES, MOST_LINES_OF_README = 400, 140
+MOST_COLUMNS = 120
+# What README states that another page has in a table or a sentence: the words of both, with the same names for the same numbers.
+FIGURES = (
+    (
+        r"Of (?P<patterns>\d+) patterns.* least peak for (?P<best>\d+), and at most (?P<lost>[\d.]+) percent more.* up to (?P<natural>\d+) percent",
+        "docs/GAINS.md",
+        r"\| minimum degree, out of place \| (?P<patterns>\d+) \| \d+ \| (?P<best>\d+) \| (?P<natural>[\d.]+) % \S+ \| (?P<lost>[\d.]+) %",
+    ),
+    (
+        r"Of (?P<shapes>\d+) shapes of workflows with a thousand tasks the plan of (?P<near>\d+) was within 3 percent",
+        "docs/GRAPH_BENCHMARKS.md",
+        r"The bound is within 3 percent of the peak for (?P<near>\d+) of (?P<shapes>\d+)",
+    ),
+    *(
+        (rf"(?P<most>\d[\d,^]*) {words}|{words} (?P<most_>\d[\d,^]*)", "docs/FORMATS.md", rf"\| `{name}` \| (?P<most>[\d,^]+) \|")
+        for words, name in (("tasks, ", "tasks"), ("entries of a matrix", "entries"), ("bytes,", "bytes"), ("sizes of", "size"))
+    ),
+)
 # What a name as code must end with to be taken for a file.
 ENDINGS = tuple(
     ".md .rt .antt .py .txt .c .h .cpp .hpp .f90 .edit .tree .workflow .graph .mtx .perm .order "
@@ -360,11 +388,39 @@ def storeys() -> dict[str, list[str]]:
     return found
 
 
+def points(page: list[str]) -> Iterator[tuple[int, str]]:
+    """The points of a page's lists, each in one line, with the number of its first."""
+    number, point = 0, ""
+    for at, line in [*prose(page), (0, "")]:
+        if point and line.startswith("  "):
+            point += " " + line.strip()
+            continue
+        if point:
+            yield number, point
+        number, point = at, line if line.startswith("- `") else ""
+
+
+def table_of_crates(page: list[str]) -> Table:
+    """Each point `CRATE: what is proved. **By** functions and clauses.` as a row."""
+    rows = []
+    for number, point in points(page):
+        names, _, rest = point.partition(": ")
+        rows.append((number, [names, *(it.rstrip(". ") for it in rest.partition("**By** ")[::2])]))
+    return Table("", ["crate", "proved", "clauses"], rows)
+
+
+def table_of_lines(page: list[str]) -> Table:
+    """Each point `LINE (fact): what is said.` as a row, with the line that names crate, file and definition before it."""
+    before = next((line for _, line in prose(page) if line.startswith("`") and ".antt`" in line), "")
+    found = [(number, re.match(r"- (`\w+`) \((`\w+`)\): ", point)) for number, point in points(page)]
+    return Table(before, ["line", "by"], [(number, [it[1], it[2]]) for number, it in found if it])
+
+
 def check_crates(table: Table) -> Iterator[Finding]:
     for number, cells in table.rows:
         contracts = Contracts(SPAN.findall(cells[0]))
         for word, is_there in check_cell(contracts, cells[-1]):
-            place = f"{PROVED}:{number}: {cells[0]}: {word}"
+            place = f"{PROVED_CRATES}:{number}: {cells[0]}: {word}"
             yield Finding(place, None if is_there else "no public contract has it")
     wanted = {name for crates in storeys().values() for name in crates}
     yield from check_all_named("crate", wanted, table)
@@ -401,13 +457,10 @@ def check_definition(table: Table) -> Iterator[Finding]:
 
 
 def check_proved() -> Iterator[Finding]:
-    """Each kind of table stands there once at least, or nothing would be looked up."""
-    file = ROOT / PROVED
-    page = file.read_text(encoding="utf-8").split("\n") if file.is_file() else []
-    found = list(tables(page))
-    crates = [it for it in found if it.head[0] == "crate" and it.head[-1].startswith("clauses")]
-    functions = [it for it in found if it.head[0] == "clause"]
-    definitions = [it for it in found if it.head[0] == "line"]
+    """Each kind of table, or list, stands there once at least, or nothing would be looked up."""
+    page = lines_of(PROVED)
+    functions = [it for it in tables(page) if it.head[0] == "clause"]
+    crates, definitions = ([it] if it.rows else [] for it in (table_of_crates(lines_of(PROVED_CRATES)), table_of_lines(page)))
     kinds = (("crates", crates), ("a function", functions), ("a definition", definitions))
     for what, some in kinds:
         yield Finding(f"{PROVED}: a table of {what}", None if some else "there is none")
@@ -468,15 +521,18 @@ def check_examples(number: int, crate: str, cell: str) -> Iterator[Finding]:
         for name in names:
             is_there = re.search(rf"^{name}\b[^:=]* =", text, re.M)
             fault = None if is_there else f"{owner} computes no such line"
-            yield Finding(f"{DEFINITIONS}:{number}: {name}", fault)
+            yield Finding(f"{crate}:{number}: {name}", fault)
+
+
+def lines_of(name: str) -> list[str]:
+    file = ROOT / name
+    return file.read_text(encoding="utf-8").split("\n") if file.is_file() else []
 
 
 def check_definitions() -> Iterator[Finding]:
-    file = ROOT / DEFINITIONS
-    page = file.read_text(encoding="utf-8").split("\n") if file.is_file() else []
-    yield from check_quotes(page)
+    yield from check_quotes(lines_of(DEFINITIONS))
     listed = set()
-    for table in tables(page):
+    for table in (it for name in DEFINITION_TABLES for it in tables(lines_of(name))):
         if table.head[0] != "file":
             continue
         crate = SPAN.findall(table.before)[-1]
@@ -491,17 +547,76 @@ def check_definitions() -> Iterator[Finding]:
         yield Finding(f"{DEFINITIONS}: {name}", fault)
 
 
+def check_shape(name: str, page: list[str]) -> Iterator[Finding]:
+    """That a page is no longer and no wider than its readers want."""
+    count, most = len(page) - 1, MOST_LINES_OF_README if name == "README.md" else MOST_LINES
+    yield Finding(name, f"it has {count} lines, and {most} at most are wanted" if count > most else None)
+    for number, line in prose(page):
+        if len(line) > MOST_COLUMNS and not line.startswith("|"):
+            yield Finding(f"{name}:{number}", f"it has {len(line)} columns, and {MOST_COLUMNS} at most are wanted")
+
+
+def numbers_of(pattern: str, text: str) -> dict[str, str]:
+    """What the pattern's names stand for where the text has it first, as plain numbers."""
+    found = re.search(pattern, " ".join(text.split()))
+    named = found.groupdict() if found else {}
+    return {name.rstrip("_"): number.replace(",", "").removesuffix(".0") for name, number in named.items() if number}
+
+
+def check_figures() -> Iterator[Finding]:
+    """That README's figures are those of the pages that have them."""
+    readme = "\n".join(lines_of("README.md"))
+    for said, page, told in FIGURES:
+        here, there = numbers_of(said, readme), numbers_of(told, "\n".join(lines_of(page)))
+        yield Finding(f"README.md, {page}", None if here and here == there else f"README has {here}, and the page {there}")
+
+
+def check_shown(pages: list[str]) -> Iterator[Finding]:
+    """That some page runs each command."""
+    shown = set()
+    for name in pages:
+        page = lines_of(name)
+        lines = [line for fence in fences(page) if not fence.excuse for line in fence.lines]
+        shown |= {word for line in lines for word in re.findall(r"\./memplan (\w+)", line)}
+        shown |= {cells[0].strip("`").split()[0] for table in tables(page) if table.head[0] == "words" for _, cells in table.rows}
+    for command in COMMANDS:
+        yield Finding(f"the command {command.name}", None if command.name in shown else "no page runs it")
+
+
+def words_not_said() -> list[str]:
+    """What pages do not say, by the last column of the table of words."""
+    page = (ROOT / WORDS).read_text(encoding="utf-8").split("\n")
+    return [word.strip() for table in tables(page) for _, cells in table.rows[2:] for word in cells[2].split(",") if word.strip()]
+
+
+def check_words(name: str, page: list[str], words: list[str]) -> Iterator[Finding]:
+    """That a page has one word for one thing, outside listings, code and addresses."""
+    if name == WORDS:
+        return
+    for number, line in prose(page):
+        said = LINK.sub("", SPAN.sub("", line)).lower()
+        for word in words:
+            if re.search(rf"\b{re.escape(word.lower())}\b", said):
+                yield Finding(f"{name}:{number}", f"it says '{word}', for which {WORDS} has another word")
+
+
 def findings(program: Path) -> Iterator[Finding]:
     files = files_of_repository()
     places = Places(files)
     pages = [file for file in files if file.endswith(".md") and not file.startswith("crates/")]
+    words = words_not_said()
+    yield Finding(WORDS, None if words else "it has no words")
     for name in pages:
         page = (ROOT / name).read_text(encoding="utf-8").split("\n")
         yield from check_names(name, page, places)
         yield from check_runs(name, page, program)
+        yield from check_shape(name, page)
+        yield from check_words(name, page, words)
     yield from check_proved()
     yield from check_storeys()
     yield from check_definitions()
+    yield from check_figures()
+    yield from check_shown(pages)
 
 
 def main() -> int:

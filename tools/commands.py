@@ -44,13 +44,13 @@ WORKFLOW = Option("workflow", FILE, "a workflow file: series-parallel tasks and 
 GRAPH = Option("graph", FILE, "a task graph file: tasks, and the data that go from one to another")
 MATRIX = Option("matrix", FILE, "a matrix in Matrix Market's coordinate format; its pattern is taken, made symmetric")
 PERM = Option("perm", FILE, "its rows are eliminated in this order: the k-th number is the row that goes k-th, from 1")
-IPERM = Option("iperm", FILE, "the inverse of such an order, as METIS writes it: the v-th number is the place of row v, from 0 where a 0 stands in it, else from 1")
+IPERM = Option("iperm", FILE, "the inverse of such an order, as METIS or Scotch writes it: of METIS the v-th number is the place of row v, from 0 where a 0 stands in it, else from 1; of Scotch each row stands before its place, from 0 or from 1")
 ORDERING = Option("ordering", "natural|mindeg", "in the order of the file, or by minimum degree (at most 50,000 rows)")
 SHAPE = Option("shape", "triangle|square", "count the entries of one triangle of each front, or of both")
 AMALGAMATE = Option("amalgamate", "Z", "merge fronts where that adds at most Z zeros, Z up to 2^40; none without it", 0, 2**40)
 INPLACE = Option("inplace", "no|yes", "with yes a front is assembled in the place of its greatest child's block")
 ORDER = Option("order", FILE, "an order file: the numbers of the tasks, in order, from 1; or what `post` prints")
-PLAN = Option("plan", FILE, "a plan file, as `plan` prints it; its order is taken")
+PLAN = Option("plan", FILE, "a plan, as `plan` prints it: a plan file, or its JSON; its order is taken")
 JUDGED = Option("plan", FILE, "the plan file that is judged")
 FENCES = Option("fences", FILE, "the fence file that is judged, as `fence` prints it")
 PRIORITY = Option("priority", FILE, "a ranking of the tasks: of those that may start, the first of it is started")
@@ -162,7 +162,7 @@ COMMANDS: Tuple[Command, ...] = (
         options=(
             *MATRIX_INPUT,
             Option("order", FILE, "an order file of the fronts, or what `post` prints: they come in this order; by rising number without it"),
-            Option("plan", FILE, "a plan file, as `plan` prints it: the fronts come in its order"),
+            Option("plan", FILE, "a plan, as `plan` prints it, a file or its JSON: the fronts come in its order"),
             Option("print", "text|perm", "print a line for each front, or all columns as a permutation file"),
         ),
         one_of=("matrix",),
@@ -182,7 +182,7 @@ COMMANDS: Tuple[Command, ...] = (
             IPERM,
             ORDERING,
             Option("bound", "B", "at most B rows are held at once"),
-            Option("workers", "W", "how many threads, 1 to 4096; where fronts are small one is fastest", 1, 4096),
+            Option("workers", "W", "how many fronts at once, 1 to 4096, on threads where they are large", 1, 4096),
         ),
         one_of=("matrix", "bound", "workers"),
         only_with=(),
@@ -256,7 +256,7 @@ COMMANDS: Tuple[Command, ...] = (
         options=(
             GRAPH,
             Option("order", FILE, "an order file of the workflow's tasks: it is printed by the tasks of the graph, in place of the workflow"),
-            Option("plan", FILE, "a plan file of the workflow; its order is taken"),
+            Option("plan", FILE, "a plan of the workflow, a file or its JSON; its order is taken"),
         ),
         one_of=("graph",),
         only_with=(),

@@ -124,9 +124,11 @@ usage: memplan plan [--print text|json] (INPUT | --graph FILE [--order FILE]
                              pattern is taken, made symmetric
   --perm FILE                its rows are eliminated in this order: the k-th
                              number is the row that goes k-th, from 1
-  --iperm FILE               the inverse of such an order, as METIS writes it:
-                             the v-th number is the place of row v, from 0
-                             where a 0 stands in it, else from 1
+  --iperm FILE               the inverse of such an order, as METIS or Scotch
+                             writes it: of METIS the v-th number is the place
+                             of row v, from 0 where a 0 stands in it, else from
+                             1; of Scotch each row stands before its place,
+                             from 0 or from 1
   --ordering natural|mindeg  in the order of the file, or by minimum degree (at
                              most 50,000 rows)
   --shape triangle|square    count the entries of one triangle of each front,
@@ -173,9 +175,11 @@ and any of the others
                              pattern is taken, made symmetric
   --perm FILE                its rows are eliminated in this order: the k-th
                              number is the row that goes k-th, from 1
-  --iperm FILE               the inverse of such an order, as METIS writes it:
-                             the v-th number is the place of row v, from 0
-                             where a 0 stands in it, else from 1
+  --iperm FILE               the inverse of such an order, as METIS or Scotch
+                             writes it: of METIS the v-th number is the place
+                             of row v, from 0 where a 0 stands in it, else from
+                             1; of Scotch each row stands before its place,
+                             from 0 or from 1
   --ordering natural|mindeg  in the order of the file, or by minimum degree (at
                              most 50,000 rows)
   --shape triangle|square    count the entries of one triangle of each front,
@@ -219,9 +223,11 @@ and any of the others
                              pattern is taken, made symmetric
   --perm FILE                its rows are eliminated in this order: the k-th
                              number is the row that goes k-th, from 1
-  --iperm FILE               the inverse of such an order, as METIS writes it:
-                             the v-th number is the place of row v, from 0
-                             where a 0 stands in it, else from 1
+  --iperm FILE               the inverse of such an order, as METIS or Scotch
+                             writes it: of METIS the v-th number is the place
+                             of row v, from 0 where a 0 stands in it, else from
+                             1; of Scotch each row stands before its place,
+                             from 0 or from 1
   --ordering natural|mindeg  in the order of the file, or by minimum degree (at
                              most 50,000 rows)
   --shape triangle|square    count the entries of one triangle of each front,
@@ -234,7 +240,8 @@ and any of the others
                              from one to another
   --order FILE               an order file: the numbers of the tasks, in order,
                              from 1; or what post prints
-  --plan FILE                a plan file, as plan prints it; its order is taken
+  --plan FILE                a plan, as plan prints it: a plan file, or its
+                             JSON; its order is taken
 
 Prints peak PEAK, or the first place at which the order fails. Status 1: the
 order is no traversal.
@@ -258,9 +265,11 @@ and any of the others
                              pattern is taken, made symmetric
   --perm FILE                its rows are eliminated in this order: the k-th
                              number is the row that goes k-th, from 1
-  --iperm FILE               the inverse of such an order, as METIS writes it:
-                             the v-th number is the place of row v, from 0
-                             where a 0 stands in it, else from 1
+  --iperm FILE               the inverse of such an order, as METIS or Scotch
+                             writes it: of METIS the v-th number is the place
+                             of row v, from 0 where a 0 stands in it, else from
+                             1; of Scotch each row stands before its place,
+                             from 0 or from 1
   --ordering natural|mindeg  in the order of the file, or by minimum degree (at
                              most 50,000 rows)
   --shape triangle|square    count the entries of one triangle of each front,
@@ -293,9 +302,11 @@ and any of the others
                              pattern is taken, made symmetric
   --perm FILE                its rows are eliminated in this order: the k-th
                              number is the row that goes k-th, from 1
-  --iperm FILE               the inverse of such an order, as METIS writes it:
-                             the v-th number is the place of row v, from 0
-                             where a 0 stands in it, else from 1
+  --iperm FILE               the inverse of such an order, as METIS or Scotch
+                             writes it: of METIS the v-th number is the place
+                             of row v, from 0 where a 0 stands in it, else from
+                             1; of Scotch each row stands before its place,
+                             from 0 or from 1
   --ordering natural|mindeg  in the order of the file, or by minimum degree (at
                              most 50,000 rows)
   --shape triangle|square    count the entries of one triangle of each front,
@@ -330,9 +341,11 @@ and any of the others
                              pattern is taken, made symmetric
   --perm FILE                its rows are eliminated in this order: the k-th
                              number is the row that goes k-th, from 1
-  --iperm FILE               the inverse of such an order, as METIS writes it:
-                             the v-th number is the place of row v, from 0
-                             where a 0 stands in it, else from 1
+  --iperm FILE               the inverse of such an order, as METIS or Scotch
+                             writes it: of METIS the v-th number is the place
+                             of row v, from 0 where a 0 stands in it, else from
+                             1; of Scotch each row stands before its place,
+                             from 0 or from 1
   --ordering natural|mindeg  in the order of the file, or by minimum degree (at
                              most 50,000 rows)
   --shape triangle|square    count the entries of one triangle of each front,
@@ -344,8 +357,8 @@ and any of the others
   --order FILE               an order file of the fronts, or what post prints:
                              they come in this order; by rising number without
                              it
-  --plan FILE                a plan file, as plan prints it: the fronts come in
-                             its order
+  --plan FILE                a plan, as plan prints it, a file or its JSON: the
+                             fronts come in its order
   --print text|perm          print a line for each front, or all columns as a
                              permutation file
 
@@ -373,14 +386,16 @@ natural|mindeg] --bound B --workers W
                              pattern is taken, made symmetric
   --perm FILE                its rows are eliminated in this order: the k-th
                              number is the row that goes k-th, from 1
-  --iperm FILE               the inverse of such an order, as METIS writes it:
-                             the v-th number is the place of row v, from 0
-                             where a 0 stands in it, else from 1
+  --iperm FILE               the inverse of such an order, as METIS or Scotch
+                             writes it: of METIS the v-th number is the place
+                             of row v, from 0 where a 0 stands in it, else from
+                             1; of Scotch each row stands before its place,
+                             from 0 or from 1
   --ordering natural|mindeg  in the order of the file, or by minimum degree (at
                              most 50,000 rows)
   --bound B                  at most B rows are held at once
-  --workers W                how many threads, 1 to 4096; where fronts are
-                             small one is fastest
+  --workers W                how many fronts at once, 1 to 4096, on threads
+                             where they are large
 
 Prints fronts M, rounds R, used U, a line for each round and one for each
 front, end. Rows are places in the order of elimination. Status 5: the bound is
@@ -417,9 +432,11 @@ and any of the others
                              pattern is taken, made symmetric
   --perm FILE                its rows are eliminated in this order: the k-th
                              number is the row that goes k-th, from 1
-  --iperm FILE               the inverse of such an order, as METIS writes it:
-                             the v-th number is the place of row v, from 0
-                             where a 0 stands in it, else from 1
+  --iperm FILE               the inverse of such an order, as METIS or Scotch
+                             writes it: of METIS the v-th number is the place
+                             of row v, from 0 where a 0 stands in it, else from
+                             1; of Scotch each row stands before its place,
+                             from 0 or from 1
   --ordering natural|mindeg  in the order of the file, or by minimum degree (at
                              most 50,000 rows)
   --shape triangle|square    count the entries of one triangle of each front,
@@ -432,7 +449,8 @@ and any of the others
                              from one to another
   --order FILE               an order file: the numbers of the tasks, in order,
                              from 1; or what post prints
-  --plan FILE                a plan file, as plan prints it; its order is taken
+  --plan FILE                a plan, as plan prints it: a plan file, or its
+                             JSON; its order is taken
   --bound B                  the memory that there is, in the units of the
                              input
   --workers W                how many workers, 1 to 4096
@@ -468,9 +486,11 @@ and any of the others
                              pattern is taken, made symmetric
   --perm FILE                its rows are eliminated in this order: the k-th
                              number is the row that goes k-th, from 1
-  --iperm FILE               the inverse of such an order, as METIS writes it:
-                             the v-th number is the place of row v, from 0
-                             where a 0 stands in it, else from 1
+  --iperm FILE               the inverse of such an order, as METIS or Scotch
+                             writes it: of METIS the v-th number is the place
+                             of row v, from 0 where a 0 stands in it, else from
+                             1; of Scotch each row stands before its place,
+                             from 0 or from 1
   --ordering natural|mindeg  in the order of the file, or by minimum degree (at
                              most 50,000 rows)
   --shape triangle|square    count the entries of one triangle of each front,
@@ -483,7 +503,8 @@ and any of the others
                              from one to another
   --order FILE               an order file: the numbers of the tasks, in order,
                              from 1; or what post prints
-  --plan FILE                a plan file, as plan prints it; its order is taken
+  --plan FILE                a plan, as plan prints it: a plan file, or its
+                             JSON; its order is taken
   --bound B                  the memory that there is, in the units of the
                              input
   --workers W                for runs on at most W workers, 1 to 4096; on any
@@ -524,9 +545,11 @@ and any of the others
                              pattern is taken, made symmetric
   --perm FILE                its rows are eliminated in this order: the k-th
                              number is the row that goes k-th, from 1
-  --iperm FILE               the inverse of such an order, as METIS writes it:
-                             the v-th number is the place of row v, from 0
-                             where a 0 stands in it, else from 1
+  --iperm FILE               the inverse of such an order, as METIS or Scotch
+                             writes it: of METIS the v-th number is the place
+                             of row v, from 0 where a 0 stands in it, else from
+                             1; of Scotch each row stands before its place,
+                             from 0 or from 1
   --ordering natural|mindeg  in the order of the file, or by minimum degree (at
                              most 50,000 rows)
   --shape triangle|square    count the entries of one triangle of each front,
@@ -539,7 +562,8 @@ and any of the others
                              from one to another
   --order FILE               an order file: the numbers of the tasks, in order,
                              from 1; or what post prints
-  --plan FILE                a plan file, as plan prints it; its order is taken
+  --plan FILE                a plan, as plan prints it: a plan file, or its
+                             JSON; its order is taken
   --bound B                  the memory that there is, in the units of the
                              input
 
@@ -573,9 +597,11 @@ and any of the others
                              pattern is taken, made symmetric
   --perm FILE                its rows are eliminated in this order: the k-th
                              number is the row that goes k-th, from 1
-  --iperm FILE               the inverse of such an order, as METIS writes it:
-                             the v-th number is the place of row v, from 0
-                             where a 0 stands in it, else from 1
+  --iperm FILE               the inverse of such an order, as METIS or Scotch
+                             writes it: of METIS the v-th number is the place
+                             of row v, from 0 where a 0 stands in it, else from
+                             1; of Scotch each row stands before its place,
+                             from 0 or from 1
   --ordering natural|mindeg  in the order of the file, or by minimum degree (at
                              most 50,000 rows)
   --shape triangle|square    count the entries of one triangle of each front,
@@ -607,7 +633,7 @@ usage: memplan reduce --graph FILE [--order FILE | --plan FILE]
                 another
   --order FILE  an order file of the workflow's tasks: it is printed by the
                 tasks of the graph, in place of the workflow
-  --plan FILE   a plan file of the workflow; its order is taken
+  --plan FILE   a plan of the workflow, a file or its JSON; its order is taken
 
 Prints a workflow file, with a line # K NAME for each task: task K is task NAME
 of the graph, or a join if there is none. With an order of its tasks, that
@@ -740,7 +766,8 @@ Statuses:
       or of version 2 refused graph uses K, item I or arcs
   10  a step needs more than the bound: refused working-set STEP NEED BOUND
 
-docs/COMMANDS.md has all of this, docs/FORMATS.md the files and the refusals.
+docs/COMMANDS.md has all of this, docs/FORMATS.md the files, docs/REPORTS.md
+the refusals.
 END
             ;;
     esac

@@ -17,6 +17,7 @@ from commands import AT_MOST_ONE, COMMANDS, FILE, INPUT, INPUTS, STATUSES, Comma
 
 ROOT = Path(__file__).resolve().parent.parent
 MADE = "Made by tools/make_help.py of tools/commands.py."
+MOST_COLUMNS = 120  # of a page
 DATE = "2026-12-01"  # of the man page: when the commands changed last
 ABOUT = "memplan orders tasks so that their temporary data needs as little memory as possible, and proves it."
 WORDS = (
@@ -69,8 +70,20 @@ def own_statuses(command: Command) -> str:
 # ---- docs/COMMANDS.md
 
 
-def paragraph(text: str) -> List[str]:
-    return textwrap.wrap(text, 150, break_on_hyphens=False, break_long_words=False)
+def paragraph(text: str, indent: str = "") -> List[str]:
+    """Lines of a page, which break no code; those after the first are indented, as in an item of a list."""
+    first, *words = re.findall(r"(?:`[^`]*`|[^\s`])+", text)
+    lines = [first]
+    for word in words:
+        if len(lines[-1]) + 1 + len(word) > MOST_COLUMNS:
+            lines.append(indent + word)
+        else:
+            lines[-1] += " " + word
+    return lines
+
+
+def items(texts: Iterable[str]) -> List[str]:
+    return [line for text in texts for line in paragraph(text, "  ")]
 
 
 def option_line(option: Option) -> str:
@@ -83,9 +96,9 @@ def page_block(command: Command) -> List[str]:
     return [
         f"## {command.name}",
         "",
-        f"{sentence(command.purpose)} `memplan {command.name} {command.usage}`",
-        *(option_line(option) for option in own_options(command)),
-        f"- prints {command.prints}.{status}",
+        *paragraph(f"{sentence(command.purpose)} `memplan {command.name} {command.usage}`"),
+        *items(option_line(option) for option in own_options(command)),
+        *items([f"- prints {command.prints}.{status}"]),
         "```",
         f"$ ./memplan {words}",
         *prints.split("\n"),
@@ -100,7 +113,7 @@ def page() -> str:
         "",
         f"<!-- {MADE} -->",
         "",
-        *paragraph(f"{WORDS} [FORMATS.md](FORMATS.md) has the files, the reports and the refusals."),
+        *paragraph(f"{WORDS} [FORMATS.md](FORMATS.md) and [PLANS.md](PLANS.md) have the files, [REPORTS.md](REPORTS.md) the reports and the refusals."),
         "",
         *paragraph(HELP),
         "",
@@ -113,13 +126,13 @@ def page() -> str:
         "",
         "## Inputs",
         "",
-        *(f"- {name} is {says}" for name, (says, _) in INPUTS.items()),
-        *(option_line(option) for option in INPUT),
+        *items(f"- {name} is {says}" for name, (says, _) in INPUTS.items()),
+        *items(option_line(option) for option in INPUT),
         "",
     ]
     for command in COMMANDS:
         lines += page_block(command)
-    lines += ["## Statuses", "", *(f"- {number}: {says}" for number, says in STATUSES.items())]
+    lines += ["## Statuses", "", *items(f"- {number}: {says}" for number, says in STATUSES.items())]
     return "\n".join(lines) + "\n"
 
 
@@ -289,7 +302,7 @@ def summary_help() -> List[str]:
     lines += columns((command.name, command.purpose) for command in COMMANDS)
     lines += ["", *wrapped(f"'memplan help plan' has the options of plan, and so on. {WORDS}"), "", "Statuses:"]
     lines += columns((str(number), says) for number, says in STATUSES.items())
-    return [*lines, "", *wrapped("docs/COMMANDS.md has all of this, docs/FORMATS.md the files and the refusals.")]
+    return [*lines, "", *wrapped("docs/COMMANDS.md has all of this, docs/FORMATS.md the files, docs/REPORTS.md the refusals.")]
 
 
 def bash_table(name: str, rows: Dict[str, str]) -> List[str]:

@@ -1,5 +1,5 @@
 #!/usr/bin/env python3
-"""Makes a matrix file, to measure with: a grid, a random pattern or a band; or a permutation file for a grid.
+"""Makes a matrix file, to measure with: a grid, a random pattern, a band or chains; or a permutation file for a grid.
 
 usage: make_matrices.py grid ROWS COLUMNS FILE
        make_matrices.py dissection ROWS COLUMNS FILE
@@ -7,11 +7,16 @@ usage: make_matrices.py grid ROWS COLUMNS FILE
        make_matrices.py band VERTICES WIDTH FILE
        make_matrices.py pattern VERTICES ENTRIES FILE
        make_matrices.py valued_band VERTICES WIDTH FILE
+       make_matrices.py chains CHAINS LENGTH FILE
 
 The grid has the number r * COLUMNS + c + 1 for the vertex in row r and column c, both from 0, and joins each to its right and to its
 lower neighbour. The entries of a random pattern are drawn from all pairs of indices, with a value each; those of `pattern` have none. The
 numbers come from a small generator with a fixed seed: the same call makes the same file. A band joins each vertex to those that are at most
 WIDTH numbers away; in a valued one each entry has a value.
+
+Chains are paths of so many vertices, side by side, before a separator. The first vertex of each path is joined to 20,000 vertices of the separator,
+each later one to one more of it. So in the order of their numbers each vertex of a path is a front of its own, of 20,000 rows and more, and the
+chains can be eliminated at the same time.
 
 The dissection is an order of elimination of the grid: a line of vertices across its longer side comes last, after its two halves, which
 are ordered likewise (nested dissection, George 1973).
@@ -75,6 +80,20 @@ def valued_band(out, vertices, width):
         out.write(f"{w} {v} {1 + next(draw) % 100_000}\n")
 
 
+def chains(out, count, length):
+    width = 20_000
+    separator = count * length
+    vertices = separator + width + length - 1
+    out.write("%%MatrixMarket matrix coordinate pattern symmetric\n")
+    out.write(f"{vertices} {vertices} {count * (width + 2 * (length - 1))}\n")
+    for first in range(1, separator, length):
+        for place in range(1, width + 1):
+            out.write(f"{separator + place} {first}\n")
+        for step in range(1, length):
+            out.write(f"{first + step} {first + step - 1}\n")
+            out.write(f"{separator + width + step} {first + step}\n")
+
+
 def dissection(out, rows, columns):
     order = []
     # what is left to be ordered, the last first: a rectangle of the grid, or a line that comes as it is
@@ -104,6 +123,7 @@ def main():
             "pattern": unvalued,
             "band": band,
             "valued_band": valued_band,
+            "chains": chains,
         }
         makers[kind](out, first, second)
 

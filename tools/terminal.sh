@@ -289,7 +289,7 @@ say_refusal() { # SECONDS WORDS..
     if [ -n "$line" ] && command -v python3 >/dev/null; then
         "$here/tools/explain" $line --of "$2" "${@:3}"
     else
-        say "docs/FORMATS.md, 'Reports and statuses', says what the line means"
+        say "docs/REPORTS.md, 'Reports and statuses', says what the line means"
     fi
 }
 

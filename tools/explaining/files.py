@@ -1,5 +1,6 @@
 """The files that refusals speak of: their lines, what they should hold, and what else they may be."""
 
+import json
 import re
 from itertools import dropwhile, islice, takewhile
 from typing import Dict, Iterator, List, NamedTuple, Tuple
@@ -12,7 +13,7 @@ FORMS = {
     "graph": "a graph file has the lines `graph 1`, `tasks N`, N lines `extra share time`, `arcs M`, M lines `from to size`, and `end` (`graph 2`: `items M`, M lines `size from reader reader ..`)",
     "matrix": "a matrix file begins with `%%MatrixMarket matrix coordinate FIELD SYMMETRY`, then `ROWS COLUMNS ENTRIES`",
     "perm": "a permutation file has each row from 1 on once, the first one to go first",
-    "iperm": "a file of an inverse has the place of each row, row 1 first, each place once: from 0 on where a 0 stands in it, else from 1 on",
+    "iperm": "a file of an inverse has the place of each row, row 1 first, each place once: from 0 on where a 0 stands in it, else from 1 on; or it is what Scotch's gord writes",
     "order": "an order file has the numbers of the tasks, in order, and nothing else; or it is what `post` prints: `peak P`, `order N`, N tasks, and `end`",
     "plan": "a plan file has the lines `plan 1`, `order N`, N tasks, `peak P`, `claims C`, C claims, and `end`",
     "fences": "a fence file has the lines `fences 1`, `bound B`, `workers W`, `room L`, `joins J`, J places, `fences K`, K lines `FROM TO`, `amounts N`, N amounts, and `end`",
@@ -68,12 +69,19 @@ class File:
 
     def numbered(self) -> Iterator[Tuple[int, str]]:
         """The tokens of all lines, each with the number of its line; of a plan, and of what `post` prints, those of its order."""
+        if self.is_json():
+            with open(self.name, "rb") as file:
+                return ((1, str(task)) for task in json.load(file)["order"])
         rows = self.rows()
         if self.kind == "plan":
             rows = islice(rows, 2, 2 + self.stated("order"))
         elif self.is_report():
             rows = takewhile(lambda row: row[1] != ["end"], islice(rows, 2, None))
         return ((number, token) for number, tokens in rows for token in tokens)
+
+    def is_json(self) -> bool:
+        """Whether it is a plan as JSON."""
+        return self.kind == "plan" and self.head.lstrip(b" \t\r\n").startswith(b"{")
 
     def is_report(self) -> bool:
         """Whether it is an order as `post` prints it."""

@@ -41,6 +41,12 @@ def workflow_number(case: Case) -> str:
     return numbers(case, names, case.tokens[1:], case.tokens[0] == "task")
 
 
+def plan_number(case: Case) -> str:
+    if case.file.is_json():
+        return "The tasks in the array `order` are numbers of digits alone, below 2^32."
+    return next((f"{wrong_token(it)}." for it in case.tokens if it not in "FR" and wrong_token(it)), "A number is too great.")
+
+
 def graph_number(case: Case) -> str:
     section = case.file.section()
     if case.tokens[0] in ("tasks", section):
@@ -200,6 +206,8 @@ def size_of_permutation(case: Case) -> int:
 def odd_one(case: Case) -> str:
     """The token of a permutation's line, or of its inverse's, at which its reading stopped."""
     most, seen, at, last = size_of_permutation(case), set(), 0, 0
+    if case.file.kind == "iperm" and sum(1 for _ in case.file.numbered()) == 2 * most + 1:
+        return odd_listed(case, most)
     least = 0 if case.file.kind == "iperm" and counts_from_0(case.file) else 1
     for count, (number, token) in enumerate(case.file.numbered(), 1):
         at = at + 1 if number == last else 1
@@ -222,13 +230,29 @@ def counts_from_0(file: File) -> bool:
     return any(is_number(token) and int(token) == 0 for _, token in file.numbered())
 
 
-def scotch_cause(file: File) -> str:
-    return f"Scotch's gord writes a head and two columns; of these `--iperm` takes the second: awk 'NR > 1 {{ print $2 }}' {file.name}"
+def odd_listed(case: Case, most: int) -> str:
+    """The same of a listing, which has a head, then each row and its place."""
+    head, *tokens = [token for _, token in case.file.numbered()]
+    least, seen = 0 if is_number(tokens[0]) and int(tokens[0]) == 0 else 1, set()
+    if not is_number(head) or int(head) != most:
+        return f"The first number is {head}, and the matrix has {many(most, 'row')}."
+    for row, (vertex, place) in enumerate(zip(tokens[::2], tokens[1::2]), least):
+        wrong = wrong_token(vertex) or wrong_token(place)
+        if wrong:
+            return f"{wrong}."
+        if int(vertex) != row:
+            return f"Row {vertex} stands where row {row} is the next one."
+        if not least <= int(place) < least + most:
+            return f"Row {row} has the place {place}, and they are from {least} to {least + most - 1}."
+        if int(place) in seen:
+            return f"Row {row} has the place {place}, which stood before."
+        seen.add(int(place))
+    return form_of(case.file.kind)
 
 
 def permutation_cause(case: Case) -> str:
-    if case.file.is_of_scotch():
-        return scotch_cause(case.file)
+    if case.file.is_of_scotch() and case.file.kind == "perm":
+        return "Scotch's gord writes a head and two columns, which state the inverse of the order: give the file by `--iperm`, as it is."
     numbers_there = [token for _, token in case.file.numbered()]
     if all(map(is_number, numbers_there)) and sorted(map(int, numbers_there)) == list(range(len(numbers_there))):
         if case.file.kind == "priority":
@@ -238,7 +262,10 @@ def permutation_cause(case: Case) -> str:
 
 
 def inverse_cause(case: Case) -> str:
-    return scotch_cause(case.file) if case.file.is_of_scotch() else form_of(case.file.kind)
+    rows = sum(1 for _ in case.file.rows()) - 1
+    if case.file.is_of_scotch() and rows != size_of_permutation(case):
+        return f"Scotch's gord wrote it for {many(rows, 'row')}: is it of another matrix?"
+    return form_of(case.file.kind)
 
 
 def report_count(case: Case) -> str:
@@ -317,8 +344,9 @@ MEANINGS: Dict[str, object] = {
     "order no-end": report_end,
     "plan section": SECTIONS.format("order N`, `peak P` or `claims C"),
     "plan order": "The order has one task on each line: is the number behind `order` right?",
-    "plan number": lambda case: next((f"{wrong_token(it)}." for it in case.tokens if it not in "FR" and wrong_token(it)), "A number is too great."),
+    "plan number": plan_number,
     "plan priority": "The priority is empty, or has each task once.",
+    "plan json": "A text that begins with `{` is read as the JSON of a plan: one object, whose member `order` is an array of tasks, as `plan --print json` prints it.",
     "plan amount": "An amount is `PLACE AMOUNT`, by rising places from 1: is the number behind `base` or `blocker` right?",
     "plan claim": "A claim is `POSITION F|R BOUND REST`, by rising positions: is the number behind `claims` right?",
     "fences section": SECTIONS.format("joins J`, `fences K` or `amounts N"),

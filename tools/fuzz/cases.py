@@ -1,5 +1,7 @@
 """Random cases: lines of words and the files that they name."""
+import json
 import random
+import re
 from collections.abc import Callable
 from pathlib import Path
 from typing import NamedTuple, Optional
@@ -125,9 +127,32 @@ def bounded_plan_text(bench: Bench, setting: Setting) -> Optional[bytes]:
     return text_of(BoundedPlan(setting.order, int(peak), int(bound), *evidence_of(lines)))
 
 
+def planned_order_text(draw: random.Random, bench: Bench, setting: Setting) -> bytes:
+    """The plan of an input as a file, or as JSON, in part with other tokens; or an order in the form that the input's own plans do not have."""
+    choice = draw.random()
+    if choice < 0.5:
+        return plan_text(draw, bench, setting)
+    if choice < 0.6:
+        return text_of(BoundedPlan(setting.order, draw.randrange(9), draw.randrange(9), "need", draw.randrange(9), [], []))
+    if choice < 0.8:
+        bench.put(setting.files)
+        made = bench.printed(["plan", "--print=json", *(f"{name}={value}" for name, value in setting.options)])
+    else:
+        made = json.dumps({"order": setting.order, "priority": [1]}, indent=draw.choice([None, 0, 2])).encode()
+    return changed_json(draw, made) if made and draw.random() < 0.4 else made or b"{}"
+
+
+def changed_json(draw: random.Random, text: bytes) -> bytes:
+    """A JSON text with one of its parts replaced, left out or twice."""
+    parts = re.findall(rb'"[^"]*"|[-0-9.]+|[^"]', text)
+    place = draw.randrange(len(parts))
+    other = [b"", parts[place] * 2, b"0", b"-0", b"1.0", b"4294967295", b"4294967296", b"null", b"{}", b"[", b"]", b",", b'"order"', b"\xff", b"1e999"]
+    return b"".join([*parts[:place], draw.choice(other), *parts[place + 1 :]])
+
+
 def replay_options(draw: random.Random, bench: Bench, setting: Setting) -> Options:
     if draw.random() < 0.3:
-        setting.files["p"] = plan_text(draw, bench, setting)
+        setting.files["p"] = planned_order_text(draw, bench, setting)
         return [("--plan", "p")]
     setting.files["o"] = order_text(draw, setting.order)
     return [("--order", "o")]

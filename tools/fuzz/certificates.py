@@ -1,4 +1,4 @@
-"""A plain judge of fence files, written from docs/FORMATS.md and docs/DEFINITIONS.md alone: a second opinion on each verdict; which fences forbid a
+"""A plain judge of fence files, written from docs/PLANS.md, docs/REPORTS.md and docs/DEFINITIONS.md alone: a second opinion on each verdict; which fences forbid a
 run; and all moments of parallel runs that keep to fences."""
 from collections.abc import Iterator
 from functools import reduce

@@ -1,4 +1,4 @@
-"""A plain judge of plans with a bound, written from docs/FORMATS.md and docs/DEFINITIONS.md alone: a second opinion on each verdict over sums
+"""A plain judge of plans with a bound, written from docs/PLANS.md, docs/REPORTS.md and docs/DEFINITIONS.md alone: a second opinion on each verdict over sums
 and over states."""
 from typing import NamedTuple, Optional
 

@@ -1,7 +1,9 @@
-"""Plain readers of each kind of file, and of words, written from docs/FORMATS.md alone: a second opinion on each refusal."""
+"""Plain readers of each kind of file, and of words, written from docs/FORMATS.md and docs/PLANS.md alone: a second opinion on each refusal."""
+import json
+import math
 import re
 from collections.abc import Callable
-from typing import NamedTuple, Optional
+from typing import Any, NamedTuple, Optional
 
 # The limits, which tools/check_facts.py compares with those of the program.
 MOST_SIZE = MOST_TIME = MOST_ZEROS = 2**40
@@ -268,9 +270,13 @@ def read_banner(page: Page) -> int:
     return VALUES[words[3]]
 
 
+def tokens_of(text: bytes) -> list[bytes]:
+    return [token for _, tokens in Page("iperm", text, "").rest for token in tokens]
+
+
 def base_of(text: bytes) -> int:
-    """What a file of an inverse counts from: 0 where some token states 0, else 1."""
-    return 0 if any(number(token) == 0 for _, tokens in Page("iperm", text, "").rest for token in tokens) else 1
+    """What places alone count from: 0 where some token states 0, else 1."""
+    return 0 if any(number(token) == 0 for token in tokens_of(text)) else 1
 
 
 def read_permutation(file: str, text: bytes, count: int, base: int = 1) -> int:
@@ -279,14 +285,47 @@ def read_permutation(file: str, text: bytes, count: int, base: int = 1) -> int:
     seen: set[int] = set()
     for page.number, page.tokens in page.rest:
         for place in range(len(page.tokens)):
-            value = page.number_at(place) + 1 - base
-            page.test(len(seen) < count, "count")
-            page.test(1 <= value <= count, "range")
-            page.test(value not in seen, "repeated")
-            seen.add(value)
+            take_vertex(page, place, count, base, seen)
     page.number = page.past
     page.test(len(seen) == count, "count")
     return count
+
+
+def take_vertex(page: Page, place: int, count: int, base: int, seen: set[int]) -> None:
+    value = page.number_at(place) + 1 - base
+    page.test(len(seen) < count, "count")
+    page.test(1 <= value <= count, "range")
+    page.test(value not in seen, "repeated")
+    seen.add(value)
+
+
+def read_inverse(text: bytes, count: int) -> int:
+    """Places alone; or of so many tokens what Scotch writes."""
+    return read_listing(text, count) if len(tokens_of(text)) == 2 * count + 1 else read_permutation("iperm", text, count, base_of(text))
+
+
+def read_listing(text: bytes, count: int) -> int:
+    """How many vertices there are, then each and its place, both from 0 where the second token states 0."""
+    page = Page("iperm", text, "count")
+    base = 0 if number(tokens_of(text)[1]) == 0 else 1
+    seen: set[int] = set()
+    taken = 0
+    for page.number, page.tokens in page.rest:
+        for place, token in enumerate(page.tokens):
+            if taken == 0:
+                page.test(number(token) == count, "count")
+            elif taken % 2 == 1:
+                page.test(page.number_at(place) == base + len(seen), "range")
+            else:
+                take_vertex(page, place, count, base, seen)
+            taken += 1
+    return count
+
+
+def places_of(text: bytes, count: int) -> list[int]:
+    """The places of a file that is read."""
+    stated = [number(token) or 0 for token in tokens_of(text)]
+    return stated[2::2] if len(stated) == 2 * count + 1 else stated
 
 
 def states_order(text: bytes) -> bool:
@@ -431,6 +470,58 @@ def read_amounts(page: Page, count: int) -> None:
         page.test(re.fullmatch(rb"-?[0-9]+", page.tokens[1]) is not None and abs(int(page.tokens[1])) <= MOST_TOTAL, "number")
         page.test(place > before, "amount")
         before = place
+
+
+# ---- the order of a plan of any form
+
+
+def is_json(text: bytes) -> bool:
+    return text.lstrip(b" \t\r\n").startswith(b"{")
+
+
+def is_third(text: bytes) -> bool:
+    page = Page("plan", text, "no-end")
+    return next(page.rest, (0, []))[1] == [b"plan", b"3"]
+
+
+def read_planned_order(text: bytes) -> int:
+    """The length of the order of a plan, a file of any version or JSON."""
+    if not is_json(text):
+        return read_bounded_plan(text) if is_third(text) else read_plan(text)
+    try:
+        order = json_value(text)["order"]
+    except (ValueError, KeyError, RecursionError):
+        order = None
+    if not isinstance(order, list):
+        raise Refused("format plan json 1")
+    if len(order) > MOST_TASKS:
+        raise Refused("limit plan tasks")
+    if not all(type(task) is int and task < 2**32 for task in order):
+        raise Refused("format plan number 1")
+    return len(order)
+
+
+def json_value(text: bytes) -> Any:
+    """The value of a text, in which a number of digits alone below 2^64 is whole and any other one is a float, or a ValueError."""
+    value = json.loads(text.decode(), parse_int=json_number, parse_float=json_number, parse_constant=json_number)
+    json.dumps(value, ensure_ascii=False).encode()  # half a surrogate is no text
+    level, depth = [value], 0
+    while level:
+        # nested at most 127 deep
+        inner = [list(it.values()) if isinstance(it, dict) else it for it in level if isinstance(it, (dict, list))]
+        depth += bool(inner)
+        level = [it for items in inner for it in items]
+    if depth > 127:
+        raise ValueError
+    return value
+
+
+def json_number(token: str) -> Any:
+    if re.fullmatch("[0-9]+", token) and int(token) < 2**64:
+        return int(token)
+    if not math.isfinite(float(token)):
+        raise ValueError
+    return float(token)
 
 
 # ---- fences

@@ -5,7 +5,7 @@ usage: fuzz.py PROGRAM [--cases N] [--first N] [--seed S] [--jobs J] [--keep FOL
 
 A case is a line of words and the files that it names. Files are those of examples/ and random small ones of each kind and version; half of
 the cases have one that is changed in a few bytes, tokens or lines, and some have changed words. The seed and the number of a case make it,
-so the same call runs the same cases. Of each run it asks what docs/FORMATS.md says:
+so the same call runs the same cases. Of each run it asks what docs/FORMATS.md, PLANS.md and REPORTS.md say:
 
 - the status is one of the table, standard error holds its one line or nothing, and standard output is empty where nothing is printed;
 - a refusal is one line of its grammar, about a file that the words name, and the one that the plain readers of formats.py find;

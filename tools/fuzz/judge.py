@@ -2,7 +2,7 @@
 import json
 import os
 import re
-from collections.abc import Iterator
+from collections.abc import Callable, Iterator
 from functools import partial
 from typing import Optional
 
@@ -66,7 +66,7 @@ KINDS = {
     "perm": "number range repeated count",
     "iperm": "number range repeated count",
     "order": "header number count no-end",
-    "plan": "header number section order priority claim amount no-end",
+    "plan": "header number section order priority claim amount no-end json",
     "fences": "header section number join fence amount workers no-end",
     "priority": "number range repeated count",
 }
@@ -175,9 +175,10 @@ class Judge:
             if self.options.get("ordering") == "mindeg" and order > formats.MOST_MINDEG:
                 refusal = "limit matrix mindeg"
             return order, refusal
-        if file in ("perm", "iperm"):
-            base = formats.base_of(text) if file == "iperm" else 1
-            return formats.refusal_of(partial(formats.read_permutation, file, text, count, base))
+        if file == "iperm":
+            return formats.refusal_of(partial(formats.read_inverse, text, count))
+        if file == "perm":
+            return formats.refusal_of(partial(formats.read_permutation, file, text, count))
         if file == "priority":
             count = system_of(self.bench, self.options).count if "matrix" in self.options else count
             return formats.refusal_of(partial(formats.read_permutation, file, text, count))
@@ -186,10 +187,15 @@ class Judge:
             "workflow": formats.read_workflow,
             "graph": formats.read_graph_of_either_version,
             "order": formats.read_order,
-            "plan": formats.read_bounded_plan if self.is_check_of_graph() else formats.read_plan,
+            "plan": self.reader_of_plans(),
             "fences": formats.read_fences,
         }
         return formats.refusal_of(partial(readers[file], text))
+
+    def reader_of_plans(self) -> Callable[[bytes], int]:
+        if self.words[0] not in ("check", "upgrade"):
+            return formats.read_planned_order
+        return formats.read_bounded_plan if self.is_check_of_graph() else formats.read_plan
 
     def is_check_of_graph(self) -> bool:
         return self.words[0] == "check" and "graph" in self.options
@@ -207,7 +213,18 @@ class Judge:
         return self.bench.read(self.options[option]) or b""
 
     def asked_order(self) -> list[int]:
-        return plan_of(self.file("plan")).order if "plan" in self.options else order_of(self.file("order"))
+        return self.planned_order()[0] if "plan" in self.options else order_of(self.file("order"))
+
+    def planned_order(self) -> tuple[list[int], list[int]]:
+        """The order that a plan of any form gives, and its priority, which only one of version 2 may have."""
+        text = self.file("plan")
+        if formats.is_json(text):
+            return formats.json_value(text)["order"], []
+        if formats.is_third(text):
+            lines = rows(text)
+            return [int(task) for (task,) in lines[2 : int(lines[1][1]) + 2]], []
+        plan = plan_of(text)
+        return plan.order, plan.priority
 
     def replay_ends(self) -> Iterator[str]:
         system, order = system_of(self.bench, self.options), self.asked_order()
@@ -224,7 +241,7 @@ class Judge:
         if "priority" in self.options:
             priority = numbers(self.file("priority"))
         elif "plan" in self.options:
-            priority = plan_of(self.file("plan")).priority or order
+            priority = self.planned_order()[1] or order
         yield from self.expect(Simulation(system, order, priority, bound, int(self.options["workers"])).report())
 
     def fence_ends(self) -> Iterator[str]:
@@ -277,7 +294,7 @@ class Judge:
         """The vertices of the matrix in the order of their elimination, each with those of its column after it."""
         order = numbers(self.file("perm")) if "perm" in self.options else None
         if "iperm" in self.options:
-            order = inverse_of(numbers(self.file("iperm")))
+            order = inverse_of(formats.places_of(self.file("iperm"), formats.read_matrix(self.file("matrix"))))
         return later_of(self.file("matrix"), order, self.options.get("ordering") == "mindeg")
 
     def fronts_ends(self) -> Iterator[str]:

@@ -186,9 +186,14 @@ def random_permutation(draw: random.Random, count: int) -> bytes:
 
 
 def random_inverse(draw: random.Random, count: int) -> bytes:
-    """The places of so many vertices in an order of elimination, counted from 0 or from 1."""
+    """The places of so many vertices in an order of elimination, counted from 0 or from 1: alone, or as Scotch writes them."""
     base = draw.choice([0, 1])
-    return listed(draw, draw.sample(range(base, base + count), count))
+    places = draw.sample(range(base, base + count), count)
+    if draw.random() < 0.5:
+        return listed(draw, places)
+    if draw.random() < 0.5:
+        return listed(draw, [count] + [number for vertex, place in enumerate(places, base) for number in (vertex, place)])
+    return f"{count}\n".encode() + "".join(f"{vertex}\t{place}\n" for vertex, place in enumerate(places, base)).encode()
 
 
 def reported(draw: random.Random, order: list[int]) -> bytes:

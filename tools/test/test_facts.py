@@ -12,10 +12,11 @@ ROOT = Path(__file__).resolve().parents[2]
 SCRIPT = ROOT / "tools/check_facts.py"
 FOLDERS = ["tools", "python/memplan", *(f"crates/{it}" for it in ("judging", "requests", "limits", "c_calls"))]
 FOLDERS += [f"crates/{it}_files" for it in ("tree", "workflow", "graph", "matrix", "plan", "fence")]
-FILES = ["c/memplan.h", "fortran/memplan.f90", "docs/FORMATS.md"]
+FILES = ["c/memplan.h", "fortran/memplan.f90", "docs/FORMATS.md", "docs/PLANS.md", "docs/REPORTS.md"]
 
 JUDGING, CALLS, REQUESTS, LIMITS = "crates/judging", "crates/c_calls", "crates/requests/src", "crates/limits"
-HEADER, PAGE, ADMISSION, FUZZ = "c/memplan.h", "docs/FORMATS.md", "python/memplan/admission.py", "tools/fuzz/formats.py"
+HEADER, ADMISSION, FUZZ = "c/memplan.h", "python/memplan/admission.py", "tools/fuzz/formats.py"
+PAGE, PLANS, REPORTS = "docs/FORMATS.md", "docs/PLANS.md", "docs/REPORTS.md"
 # A file, what is changed in it, and what is then said.
 STATUSES = [
     (f"{JUDGING}/src/status.rt", r"Status::WorkingSet => 10,", "Status::WorkingSet => 11,", "WORKING_SET is 10 and not 11"),
@@ -25,7 +26,7 @@ STATUSES = [
     (f"{CALLS}/specs/Statuses.antt", r"\nno_memory = 8", "\nno_memory = 7", "NO_MEMORY is 7 and not 8"),
     (HEADER, r"MEMPLAN_BOUND = 5", "MEMPLAN_BOUND = 6", "BOUND is 6 and not 5"),
     ("fortran/memplan.f90", r"memplan_no_memory = 8", "memplan_no_memory = 7", "NO_MEMORY is 7 and not 8"),
-    (PAGE, r"\n\| 7 \| [^\n]*", "", "7 is missing and not 7"),
+    (REPORTS, r"\n\| 7 \| [^\n]*", "", "7 is missing and not 7"),
     ("tools/check_repository.py", r'6: "read fault"', '6: "load fault"', "6 is load fault and not read fault"),
 ]
 FAULTS = [
@@ -51,8 +52,8 @@ REFUSALS = [
     (PAGE, r"\| as many entries as stated \| `too-few` \|", "| as many entries as stated | limit `entries` |", "'Matrix files': too-few is missing"),
     (PAGE, r"## Permutation files", "## Files of permutations", "'Permutation files': there is none"),
     (PAGE, r"\| a number below 2\^32 \| `number` \|", "| a number below 2^32 | `range` |", "'Order files': number is missing"),
-    (PAGE, r"\| claim \| four tokens, the second is `F` or `R` \| `claim` \|", "| claim | four tokens | `section`, `token` |", "'Plan files': token is plan and not there"),
-    (PAGE, r"\| fence \| two numbers \| `fence` \|", "| fence | two numbers | `join` |", "'Fence files': fence is missing and not fences"),
+    (PLANS, r"\| claim \| four tokens, the second is `F` or `R` \| `claim` \|", "| claim | four tokens | `section`, `token` |", "'Plan files': token is plan and not there"),
+    (PLANS, r"\| fence \| two numbers \| `fence` \|", "| fence | two numbers | `join` |", "'Fence files': fence is missing and not fences"),
     *(
         ("tools/explaining/formats.py", rf'"{kind} {word}"', f'"{kind} 0"', f"tools/explaining/formats.py, {kind}: 0 is {kind} and not there, {word} is missing")
         for kind, word in (("tree", "parent"), ("workflow", "word"), ("graph", "arc"), ("matrix", "banner"), ("order", "number"), ("plan", "claim"), ("fences", "join"))
@@ -81,7 +82,7 @@ OF_LIMITS = [
     (f"{LIMITS}/src/lib.rt", r"MOST_POSITIONS: u64 = [^;]*", "MOST_POSITIONS: u64 = 5 * MOST_ORDER + 1", "POSITIONS is 4000001 and not 5000001"),
     (f"{LIMITS}/specs/Limits.antt", r"most_total = 2 \^ 60", "most_total = 2 ^ 62", f"TOTAL is {2**62} and not {2**60}"),
     (PAGE, r"\| `order` \| 1,000,000 ", "| `order` | 900,000 ", "ORDER is 900000 and not 1000000"),
-    (PAGE, r"N is from 1 to the limit `tasks`", "N is from 1 to 1,000,000", "which states each once: 1000000 is 3 and not 2"),
+    (REPORTS, r"N is from 1 to the limit `tasks`", "N is from 1 to 1,000,000", "which states each once: 1000000 is 3 and not 2"),
     (HEADER, r"more than 50,000 columns are not", "more than 60,000 columns are not", "DEGREE is 60000 and not 50000"),
     (HEADER, r"/\* not from 1 to 4,096 \*/", "", "WORKERS is missing and not 4096"),
     (HEADER, r"at most 2\^40 each and", "at most 2^41 each and", f"at most N each and is {2**41} and not {2**40}"),

@@ -13,6 +13,7 @@ sys.dont_write_bytecode = True
 from test_program import PROGRAM, ROOT  # noqa: E402: so that nothing is written beside it
 
 HAS_METIS = shutil.which("ndmetis") is not None
+HAS_SCOTCH = all(shutil.which(it) for it in ("gcv", "gord"))
 HAS_CHOLMOD = shutil.which("cc") is not None and Path("/usr/include/suitesparse/cholmod.h").exists()
 ARROW = "4 3\n2 3 4\n1\n1\n1\n"
 # What is wrong with a matrix, and what is said of it.
@@ -114,6 +115,29 @@ class Orders(unittest.TestCase):
         built = ran(*words)
         self.assertEqual(built.returncode, 0, built.stdout)
         return ran(program, how, "my.mtx", "my.perm", cwd=self.folder).stdout
+
+    # ---- what Scotch writes
+
+    @unittest.skipUnless(HAS_SCOTCH, "there is no gord")
+    def test_what_gord_writes_is_taken_as_it_is(self) -> None:
+        matrix = self.folder / "my.mtx"
+        ran(sys.executable, ROOT / "tools/make_matrices.py", "grid", 30, 30, matrix)
+        self.assertEqual(ran("gcv", "-im", "-os", matrix, self.folder / "from1.grf").returncode, 0)
+        # the same graph from 0: the third line has the base, each row's line how many it is joined to and with which
+        head, sizes, _, *lists = (self.folder / "from1.grf").read_text().splitlines()
+        joined = [line.split() for line in lists]
+        below = [" ".join(it[:1] + [str(int(row) - 1) for row in it[1:]]) for it in joined]
+        (self.folder / "from0.grf").write_text("\n".join([head, sizes, "0\t000", *below]) + "\n")
+        for base in (0, 1):
+            with self.subTest(base):
+                written = self.folder / f"from{base}.ord"
+                self.assertEqual(ran("gord", self.folder / f"from{base}.grf", written).returncode, 0)
+                pairs = [[int(it) for it in line.split()] for line in written.read_text().splitlines()[1:]]
+                self.assertEqual([pair[0] for pair in pairs], list(range(base, base + 900)))
+                order = sorted(range(1, 901), key=lambda row: pairs[row - 1][1])
+                (self.folder / "own.perm").write_text("".join(f"{row}\n" for row in order))
+                taken = self.printed("tree", "--matrix", "my.mtx", "--iperm", written.name)
+                self.assertEqual(taken, self.printed("tree", "--matrix", "my.mtx", "--perm", "own.perm"))
 
     # ---- the scripts that compare
 

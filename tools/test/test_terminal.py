@@ -299,13 +299,17 @@ BROKEN: List[Tuple[str, str, Text, str, List[str]]] = [
     ("two numbers of size", "matrix", alter(ARROW, "4 4 3", "4 3"), "refused format matrix size-line 2", ["`ROWS COLUMNS ENTRIES`"]),
     ("too many rows", "matrix", alter(ARROW, "4 4 3", "1000001 1000001 3"), "refused limit matrix order", ["line 2: 1000001 1000001 3", "1,000,000"]),
     ("as METIS writes it", "perm", "2\n3\n0\n1\n", "refused format perm range 3", ["line 3: 0", "counts from 0", "METIS writes is the inverse", "by `--iperm`, as it is"]),
-    ("as Scotch writes it", "perm", SCOTCH, "refused format perm count 3", ["line 3: 2 1", "Number 2 of line 3 is 1", "`--iperm` takes the second: awk"]),
+    ("as Scotch writes it", "perm", SCOTCH, "refused format perm count 3", ["line 3: 2 1", "Number 2 of line 3 is 1", "by `--iperm`, as it is"]),
     ("a number twice", "perm", "2 3 2 4\n", "refused format perm repeated 1", ["Number 3 of line 1 is 2, which stood before"]),
     ("five numbers for four", "perm", "2 3 1 4 5\n", "refused format perm count 1", ["Number 5 of line 1 is 5", "one more than the 4"]),
     ("commas", "perm", "2, 3, 1, 4\n", "refused format perm number 1", ["`2,` has a comma"]),
     ("one too few", "perm", "2 3 1\n", "refused format perm count 2", ["3 numbers, and 4 are wanted; 4 is missing"]),
     ("too great a number", "perm", "2 3 1 7\n", "refused format perm range 1", ["Number 4 of line 1 is 7, and they are from 1 to 4"]),
-    ("as Scotch writes it", "iperm", SCOTCH, "refused format iperm count 3", ["line 3: 2 1", "Scotch's gord", "`--iperm` takes the second: awk"]),
+    ("Scotch's of another matrix", "iperm", f"{SCOTCH}5\t5\n".replace("4\n", "5\n", 1), "refused format iperm range 1", ["line 1: 5", "wrote it for 5 rows", "another matrix?"]),
+    ("another head", "iperm", SCOTCH.replace("4\n", "3\n", 1), "refused format iperm count 1", ["line 1: 3", "first number is 3, and the matrix has 4 rows"]),
+    ("a row passed over", "iperm", alter(SCOTCH, "2\t1", "3\t1"), "refused format iperm range 3", ["line 3: 3 1", "Row 3 stands where row 2 is the next one"]),
+    ("a place of no row", "iperm", alter(SCOTCH, "3\t2", "3\t0"), "refused format iperm range 4", ["line 4: 3 0", "Row 3 has the place 0, and they are from 1 to 4"]),
+    ("a place of two rows", "iperm", alter(SCOTCH, "4\t4", "4\t3"), "refused format iperm repeated 5", ["line 5: 4 3", "Row 4 has the place 3, which stood before"]),
     ("a place twice", "iperm", "3\n1\n2\n2\n", "refused format iperm repeated 4", ["line 4: 2", "Number 1 of line 4 is 2, which stood before"]),
     ("too great a place, from 0", "iperm", "2 0 1 4\n", "refused format iperm range 1", ["is 4, and they are from 0 to 3, as a 0 stands among them"]),
     ("too great a place, from 1", "iperm", "3 1 2 5\n", "refused format iperm range 1", ["is 5, and they are from 1 to 4."]),
@@ -397,11 +401,8 @@ class Files(FilesTest):
         self.check(f"tree {MATRIX} --perm my.perm".split(), 3, "refused format perm range 2", "give it by `--iperm`, as it is")
         self.assertEqual(self.run_bare(f"tree {MATRIX} --iperm my.perm".split()), taken)
         self.write("my.perm", SCOTCH)
-        rest = self.check(f"tree {MATRIX} --perm my.perm".split(), 3, "refused format perm count 3", "`--iperm` takes the second: ")
-        command = rest.partition("takes the second: ")[2].splitlines()[0]
-        turned = subprocess.run(command, shell=True, cwd=self.where, stdout=subprocess.PIPE, check=True)
-        self.write("my.iperm", turned.stdout)
-        self.assertEqual(self.run_bare(f"tree {MATRIX} --iperm my.iperm".split()), taken)
+        self.check(f"tree {MATRIX} --perm my.perm".split(), 3, "refused format perm count 3", "give the file by `--iperm`, as it is")
+        self.assertEqual(self.run_bare(f"tree {MATRIX} --iperm my.perm".split()), taken)
 
     def test_orders_of_fronts_and_of_workflows(self) -> None:
         # by minimum degree rows 2 and 3 are fronts 1 and 2, whose parent is front 3
@@ -511,7 +512,7 @@ class Running(FilesTest):
         environment = {**self.environment, "PATH": str(tools)}
         ran = self.at_terminal("plan --tree my.tree".split(), environment=environment)
         self.assertEqual((ran.status, ran.out), (3, b"refused format tree no-end 8\n"))
-        self.assertIn(b"there is the line: refused format tree no-end 8\nmemplan: docs/FORMATS.md", ran.said)
+        self.assertIn(b"there is the line: refused format tree no-end 8\nmemplan: docs/REPORTS.md", ran.said)
         self.assertEqual(self.at_terminal(["paln"], environment=environment).said.count(b"\n"), 3)
 
     def test_standard_input_is_kept(self) -> None:
