@@ -7,7 +7,7 @@ use Rattle.requests.specs.declared.commands.demo.Demo.TheVariants as demos
 use Rattle.requests.specs.Request.{Request, Input, tree_input, tree_named, matrix_named, workflow_named, Matrix, natural, min_degree}
 use Rattle.requests.specs.Request.{perm_named, order_named, plan_named, replay, tree, post, check, planning, as_file, as_json, simulate}
 use Rattle.requests.specs.Request.{demo, upgrade, tree_upgrade, graph_upgrade, plan_upgrade, spill, segments, fronts, reduce, files_of, FileRole, tree_file}
-use Rattle.requests.specs.Request.{workflow_file, matrix_file, perm_file, order_file, plan_file, priority_file}
+use Rattle.requests.specs.Request.{workflow_file, matrix_file, perm_file, order_file, plan_file, planned_order_file, priority_file}
 use Rattle.requests.specs.Request.{check_fences, check_graph, bounding, default_effort, bounded_plan_file, fence_file, fencing, planned_fencing, standing}
 use Rattle.requests.specs.Request.{plan_priority_file, NamedFile, input_tasks, graph_tasks, shared_graph_file}
 use Rattle.requests.specs.Request.{inverse_named, inverse_file, columns, by_front, as_perm, carrying}
@@ -189,7 +189,7 @@ file role name = record { role = role; name = name }
 
 pub files_of_a_run :
     files_of (simulate (input_tasks a_tree) (plan_named (codes "p")) (record { bound = 22; workers = 2; priority = Some (codes "r") }))
-    ≡ file tree_file (codes "t") ∷ file plan_file (codes "p") ∷ file (priority_file (input_tasks a_tree)) (codes "r") ∷ []
+    ≡ file tree_file (codes "t") ∷ file planned_order_file (codes "p") ∷ file (priority_file (input_tasks a_tree)) (codes "r") ∷ []
 files_of_a_run = refl
 
 pub files_of_others :
