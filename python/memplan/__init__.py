@@ -799,7 +799,12 @@ class Core:
         return int(_steps.memplan_core_activate(self._at))
 
     def next(self) -> int:
-        """Of the tasks that may start now the one that stands first in the order: its number, or 0. Constant time; it changes nothing."""
+        """Of the tasks that may start now the one that stands first in the order: its number, or 0. Constant time; it changes nothing.
+
+        >>> core = Core.of_tree([0], [4], [2], order=[1], bound=6, workers=1)
+        >>> core.next(), core.activate(), core.next(), core.start(1), core.next()
+        (0, 1, 1, True, 0)
+        """
         return int(_steps.memplan_core_next(self._at))
 
     def start(self, task: SupportsIndex) -> bool:
