@@ -77,6 +77,7 @@ def simulated(core: memplan.Core, order: Sequence[int], times: Sequence[int], wo
         while task := core.activate():
             waiting.append(task)
             note("activate", task)
+        assert core.next() == next((it for it in waiting if core.is_startable(it)), 0)
         for task in list(waiting):
             if len(due) < workers and core.is_startable(task):
                 assert core.start(task) and not core.start(task)

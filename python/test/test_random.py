@@ -298,9 +298,23 @@ class Matrices(Against):
                 self.assertEqual(list(map(sorted, found)), list(map(sorted, own)))
             else:
                 self.assertEqual(found, own)
+            self.check_analysis(draw, matrix.text, words, files, pattern, memplan.analyse(pattern, told, shape, in_place, zeros))
             self.check_elimination(draw, tree, Tree.of_matrix(pattern, told))
             if zeros is None:
                 self.check_rows(draw, matrix.text, tree, [column - 1 for front in own for column in front])
+
+    def check_analysis(
+        self, draw: Random, text: str, words: List[object], files: Dict[str, str], pattern: Any, made: memplan.Analysis
+    ) -> None:
+        """The columns along an order of the fronts are those that the program prints, and the order of minimum degree is the one that it takes."""
+        fronts = (memplan.plan if draw.choice([True, False]) else memplan.best_postorder)(made.parent, made.out, made.extra, made.share)[0]
+        along = [int(column) + 1 for column in memplan.columns(made.order, made.front_of, fronts)]
+        said = self.says_of(text, "columns", "--print", "perm", *words, **files, order=listed(list(map(int, fronts))))
+        self.assertEqual(listed(along), said.report)
+        if not files:
+            degree = listed([int(column) + 1 for column in memplan.minimum_degree(pattern)])
+            same = [word for word in words if word not in ("--ordering", "mindeg")]
+            self.assertEqual(self.says_of(text, "tree", *same, perm=degree).report, self.says_of(text, "tree", *words).report)
 
     @unittest.skipUnless(io, "there is no scipy")
     def test_a_matrix_file_by_scipy(self) -> None:
