@@ -316,7 +316,7 @@ BROKEN: List[Tuple[str, str, Text, str, List[str]]] = [
     ("five places for four", "iperm", "2 0 1 3 4\n", "refused format iperm count 1", ["Number 5 of line 1 is 4", "one more than the 4"]),
     ("commas", "iperm", "2, 0, 1, 3\n", "refused format iperm number 1", ["`2,` has a comma"]),
     ("one too few", "iperm", "2\n0\n1\n", "refused format iperm count 4", ["3 numbers, and 4 are wanted; 3 is missing", "place of each row"]),
-    ("a matrix", "iperm", ARROW, "refused format iperm repeated 2", ["is a matrix file, which is given by `--matrix`"]),
+    ("a matrix", "iperm", ARROW, "refused format iperm range 2", ["is a matrix file, which is given by `--matrix`"]),
     ("a priority from 0", "priority", "0 1 2 3 4\n", "refused format priority range 1", ["counts from 0: add 1"]),
     ("from 0", "order", "0 1 2 3 4\n", "no order 1 unknown", ["Place 1 of the order has 0", "count from 0?"]),
     ("a task of another input", "order", "1 2 3 4 6\n", "no order 5 unknown", ["Place 5 of the order has 6", "another input?"]),
