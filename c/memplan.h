@@ -283,7 +283,7 @@ uint32_t memplan_analyse(uint32_t base, const uint32_t *starts, size_t start_cou
  * one front after another. Where columns and front_of come from memplan_analyse, and fronts from memplan_plan_tree or
  * memplan_best_postorder, each column comes before its parent in the elimination tree of the order that was analysed. So the factor has as
  * many entries, in the same rows of each column; and where no fronts were merged, those of the new order have the same columns. Fronts in a
- * postorder that were not merged are made in just this order by a solver that postorders the elimination tree.
+ * postorder that were not merged are made in just this order by a solver that postorders the elimination tree with children by rising number.
  *
  * base                 what columns and new_columns count from
  * columns, count       each column once, in the order in which they are eliminated

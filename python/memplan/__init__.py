@@ -625,8 +625,8 @@ def columns(order: WholeNumbers, front_of: WholeNumbers, fronts: WholeNumbers) -
     ``order``, one front after another.
 
     ``order`` and ``front_of`` are those of `analyse`, and ``fronts`` is an order of its fronts, as `plan` or `best_postorder` gives it. The
-    new order has the same fill, and a solver that postorders the elimination tree makes fronts in a postorder, none of them merged, in just
-    that order.
+    new order has the same fill, and a solver whose postorder takes children by rising number makes fronts in a postorder, none of them
+    merged, in just that order.
 
     >>> made = analyse(([0, 3, 3, 3, 3], [1, 2, 3]))
     >>> [int(column) for column in columns(made.order, made.front_of, [2, 1, 3])]
