@@ -1,13 +1,15 @@
 -- A segment that is put into a row, as the list of segments sees it.
-use Rattle.std.proofs.Common.{◌≡◌, ℕ, zero, suc, ◌+◌, ◌<◌, ◌≤◌, List, [], ◌∷◌, length, get_or, set, refl, ap, sym, ◌∙◌, arith, Bool, ◌≢◌}
+use Rattle.std.proofs.Common.{◌≡◌, ℕ, zero, suc, ◌+◌, ◌<◌, ◌≤◌, List, [], ◌∷◌, length, get_or, set, refl, ap, sym, ◌∙◌, arith, Bool, ◌≢◌, Some}
 use Rattle.std.specs.List.{insert}
 use Rattle.std.proofs.lemmas.Bool.Decides.{nat_tests}
-use Rattle.side_laws.specs.Segments.{IsRising, net_sum, last_up}
+use Rattle.side_laws.specs.Segments.{IsRising, StartsAbove, net_sum, last_up}
 use Rattle.hill_valley.specs.declared.side.Seg.{Seg}
 use Rattle.hill_valley.specs.Ropes.{IsRope, Extends}
 use Rattle.hill_valley.specs.Side.{profile, HaveRopes, Run, run_of, runs_of, join_runs, insert_run}
+use Rattle.hill_valley.specs.Descents.{first_up}
 use Rattle.hill_valley.specs.Places.{up_at, IsPlace, IsGap, IsThere}
 use Rattle.hill_valley.proofs.Kept.{list_kept, runs_kept}
+use Rattle.lists.proofs.Options.{none_some, some_same}
 
 -- ---- the place
 
@@ -111,6 +113,15 @@ pub ropes_there : (lists : List (List ℕ)) (whole : Seg) (i : ℕ) (ss : List S
 ropes_there lists whole i [] h r = tt
 ropes_there lists whole zero (t ∷ ss) h r = (r, h.1)
 ropes_there lists whole (suc i) (t ∷ ss) h r = (h.0, ropes_there lists whole i ss h.1 r)
+
+-- a segment that goes up less than the first
+pub below_all : (lists : List (List ℕ)) (before : Bool) (s : Seg) (k : ℕ) (ss : List Seg) → first_up ss ≡ Some k → s.up < k
+    → StartsAbove s.up (profile ss) × (runs_of lists (s ∷ ss) ≡ insert_run before (run_of lists s) (runs_of lists ss))
+below_all lists before s k [] e lt = absurd (none_some e)
+below_all lists before s k (t ∷ ss) e lt =
+    let u : t.up ≡ k = some_same e in
+    let h : s.up < t.up = omega arith in
+    (h, sym (less before (run_of lists s) (run_of lists t) (runs_of lists ss) h))
 
 -- ---- what is there
 

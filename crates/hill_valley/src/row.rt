@@ -51,18 +51,21 @@ impl Row {
         Ok(Row { segments })
     }
 
+    #[inline]
     pub fn keeps(&self)
         ensures { IsSide (profile self.now) }
     {
         let _ = &self.segments;
     }
 
+    #[inline]
     pub fn len(&self) -> u64
         ensures len { result ≡ length self.now }
     {
         self.segments.len() as u64
     }
 
+    #[inline]
     pub fn first_up(&self) -> Option<u64>
         ensures value { result ≡ first_up self.now }
     {
@@ -72,6 +75,7 @@ impl Row {
         }
     }
 
+    #[inline]
     pub fn last_up(&self) -> u64
         ensures value { result ≡ last_up (profile self.now) }
     {
@@ -81,6 +85,7 @@ impl Row {
         }
     }
 
+    #[inline]
     pub fn take_first(&mut self) -> Option<Seg>
         ensures first { MatchOption result ((self.old ≡ []) × (self.new ≡ [])) (λ s. self.old ≡ s ∷ self.new) }
     {
@@ -96,7 +101,43 @@ impl Row {
         Ok(())
     }
 
+    // A segment before all others.
+    fn put_first(&mut self, seg: Seg) -> Result<(), NoMemory>
+        requires side { IsSide (profile (seg ∷ self.old)) }
+        ensures segments { OnOk result (self.new ≡ seg ∷ self.old) }
+        ensures err { OnErr result (self.new ≡ self.old) }
+    {
+        self.segments.push_front(seg)?;
+        Ok(())
+    }
+
+    // A segment before all others needs no search, and that is where most are put in.
     pub fn insert(&mut self, ropes: &mut Ropes, seg: Seg, before: bool) -> Result<(), NoMemory>
+        requires rope { IsRope ropes.old seg.tasks }
+        requires ropes { HaveRopes ropes.old self.old }
+        requires up { seg.up ≤ most_total }
+        requires net { net_sum (profile self.old) + seg.net ≤ most_total }
+        ensures segments { OnOk result (
+            runs_of ropes.new self.new ≡ insert_run before (run_of ropes.old seg) (runs_of ropes.old self.old)) }
+        ensures ropes { HaveRopes ropes.new self.new }
+        ensures err { OnErr result (self.new ≡ self.old) }
+        ensures kept { Extends ropes.old ropes.new }
+    {
+        laws::inserting();
+        self.keeps();
+        match self.first_up() {
+            Some(first) if seg.up < first => {
+                self.put_first(seg)?;
+                Ok(())
+            }
+            _ => {
+                self.insert_among(ropes, seg, before)?;
+                Ok(())
+            }
+        }
+    }
+
+    fn insert_among(&mut self, ropes: &mut Ropes, seg: Seg, before: bool) -> Result<(), NoMemory>
         requires rope { IsRope ropes.old seg.tasks }
         requires ropes { HaveRopes ropes.old self.old }
         requires up { seg.up ≤ most_total }

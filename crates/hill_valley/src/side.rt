@@ -68,6 +68,7 @@ impl Model for Side {
 
 impl Side {
     /// A side of no segments.
+    #[inline(always)]
     pub fn new(alloc: Global) -> Side
         ensures empty { result ≡ [] }
     {
@@ -88,6 +89,7 @@ impl Side {
     }
 
     /// How many segments the side has.
+    #[inline(always)]
     pub fn len(&self) -> u64
         ensures len { result ≡ length self.now }
     {
@@ -99,6 +101,7 @@ impl Side {
     }
 
     /// Takes the first segment out, the one of the least `up`. None exactly where the side has none. Logarithmic time.
+    #[inline(always)]
     pub fn take_first(&mut self) -> Option<Seg>
         ensures first { MatchOption result ((self.old ≡ []) × (self.new ≡ [])) (λ s. self.old ≡ s ∷ self.new) }
         // what is left leads on from where the first segment ends
@@ -119,6 +122,7 @@ impl Side {
     }
 
     /// Takes the first segment out, if it goes up by at most `most`. Logarithmic time.
+    #[inline(always)]
     pub fn take_first_within(&mut self, most: u64) -> Option<Seg>
         ensures first { MatchOption result
             ((self.new ≡ self.old) × StartsAbove most (profile self.old))
@@ -222,6 +226,7 @@ impl Side {
     }
 
     /// The `up` of the last segment, the greatest, and 0 where there is none. Logarithmic time.
+    #[inline(always)]
     pub fn last_up(&self) -> u64
         ensures value { result ≡ last_up (profile self.now) }
     {
@@ -233,6 +238,7 @@ impl Side {
     }
 
     /// The tasks of all segments, in order, as one list. The ropes of the side are of these ropes. Linear time.
+    #[inline(always)]
     pub fn tasks(&self, ropes: &mut Ropes) -> Result<Rope, NoMemory>
         requires ropes { HaveRopes ropes.old self.now }
         ensures list { IfOk result (λ rope. list_of ropes.new rope ≡ tasks_of (runs_of ropes.old self.now)) }
@@ -263,6 +269,7 @@ impl Side {
 
     /// The greatest of the level and of the memories that the segments reach when they are run from it. The level is as for
     /// [`Side::lowest`]. Linear time.
+    #[inline(always)]
     pub fn top(&self, level: u64) -> u64
         requires room { net_sum (profile self.now) ≤ level }
         requires level { level ≤ most_total }
@@ -281,6 +288,7 @@ impl Side {
     /// Puts the numbers of the first segments behind the others, as long as they start at `stop` or above: all of them for a `stop` of 0.
     /// The segments are run from `level`, which is at least the sum of the `net` values. Linear time in those that are put there.
     /// Where memory is wanting some may be put there.
+    #[inline(always)]
     pub fn push_numbers(
         &self,
         level: u64,
@@ -312,6 +320,7 @@ impl Side {
     }
 
     // The `up` of the first segment.
+    #[inline(always)]
     fn first_up(&self) -> Option<u64>
         ensures value { result ≡ first_up self.now }
         ensures side { IsSide (profile self.now) }

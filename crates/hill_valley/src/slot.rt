@@ -39,24 +39,28 @@ impl Model for Slot {
 }
 
 impl Slot {
+    #[inline]
     pub fn new() -> Slot
         ensures empty { result ≡ [] }
     {
         Slot { segment: None }
     }
 
+    #[inline]
     pub fn keeps(&self)
         ensures { IsSide (profile self.now) }
     {
         let _ = &self.segment;
     }
 
+    #[inline]
     pub fn len(&self) -> u64
         ensures len { result ≡ length self.now }
     {
         if self.segment.is_some() { 1 } else { 0 }
     }
 
+    #[inline]
     pub fn first_up(&self) -> Option<u64>
         ensures value { result ≡ first_up self.now }
     {
@@ -66,6 +70,7 @@ impl Slot {
         }
     }
 
+    #[inline]
     pub fn last_up(&self) -> u64
         ensures value { result ≡ last_up (profile self.now) }
     {
@@ -75,6 +80,7 @@ impl Slot {
         }
     }
 
+    #[inline]
     pub fn take_first(&mut self) -> Option<Seg>
         ensures first { MatchOption result ((self.old ≡ []) × (self.new ≡ [])) (λ s. self.old ≡ s ∷ self.new) }
     {
@@ -105,6 +111,7 @@ impl Slot {
         }
     }
 
+    #[inline]
     pub fn tasks(&self, ropes: &Ropes) -> Rope
         requires ropes { HaveRopes ropes.now self.now }
         ensures list { list_of ropes.now result ≡ tasks_of (runs_of ropes.now self.now) }
@@ -128,6 +135,7 @@ impl Slot {
         }
     }
 
+    #[inline]
     pub fn top(&self, level: u64) -> u64
         requires room { net_sum (profile self.now) ≤ level }
         requires level { level ≤ most_total }
@@ -139,6 +147,7 @@ impl Slot {
         }
     }
 
+    #[inline]
     pub fn push_numbers(
         &self,
         level: u64,

@@ -1,5 +1,5 @@
 -- What holds while the segments of a side are put behind another.
-use Rattle.std.proofs.Common.{◌≡◌, ℕ, ◌+◌, ◌<◌, ◌≤◌, ◌-◌, max, min, Bool, List, [], ◌∷◌}
+use Rattle.std.proofs.Common.{◌≡◌, ℕ, ◌+◌, ◌<◌, ◌≤◌, ◌-◌, max, min, Bool, List, [], ◌∷◌, ◌++◌}
 use Rattle.std.proofs.Common.{refl, ap, sym, subst, ◌∙◌, arith, length, true, false}
 use Rattle.std.specs.Prelude.{nat_le, Result, Ok, Err, IfOk, OnOk}
 use Rattle.std.specs.Bool.{MatchBool}
@@ -7,9 +7,10 @@ use Rattle.std.proofs.lemmas.Bool.Decides.{nat_tests}
 use Rattle.std.proofs.lemmas.List.{length-map}
 use Rattle.limits.specs.Limits.{most_total}
 use Rattle.side_laws.specs.Segments.{Segment, net_sum, IsRising, StartsAbove, last_up}
+use Rattle.hill_valley.specs.declared.ropes.Rope.{Rope}
 use Rattle.hill_valley.specs.declared.side.Seg.{Seg}
-use Rattle.hill_valley.specs.Ropes.{IsRope, Extends}
-use Rattle.hill_valley.specs.Side.{profile, HaveRopes, Run, run_of, runs_of, run_numbers, run_profile, append_run}
+use Rattle.hill_valley.specs.Ropes.{list_of, IsRope, Extends}
+use Rattle.hill_valley.specs.Side.{profile, HaveRopes, Run, run_of, runs_of, run_numbers, run_profile, append_run, insert_run}
 use Rattle.segment_merge.specs.Crossing.{append_runs}
 use Rattle.segment_merge.specs.Laws.{SideLaws}
 use Rattle.segment_merge.specs.Merging.{move_runs}
@@ -122,6 +123,29 @@ module _ (laws : SideLaws) where
               omega (arith, length_runs ropes' near', length_runs ropes near, ap (length {A = Run}) put);
         }
 
+-- one run takes in a lower one behind it
+joined_to_one : (r s : Run) → s.up ≤ r.up
+    → append_run s (r ∷ []) ≡ record { up = r.up; net = r.net + s.net; tasks = r.tasks ++ s.tasks } ∷ []
+joined_to_one r s h = grind (arith, nat_tests)
+
+-- `far` is left of far0, and `first` is first0 with the others joined to it
+module _ (laws : SideLaws) (ropes0 ropes : List (List ℕ)) (far0 far rest : List Seg) (first0 first s : Seg)
+    (m : Appending ropes0 ropes far0 (first0 ∷ []) far (first ∷ [])) (next : far ≡ s ∷ rest) where
+  pub before_first : IsRope ropes first.tasks × IsRope ropes s.tasks × (first.net + s.net ≤ most_total)
+  before_first = let a = appending_first laws ropes0 ropes far0 (first0 ∷ []) far (first ∷ []) rest s m next in
+      let n = m.near_ropes in
+      (n.0, a.0, let w = a.1 in omega arith)
+
+  pub before_on : (ropes' : List (List ℕ)) (tasks : Rope) → s.up ≤ first.up → Extends ropes ropes'
+      → IsRope ropes' tasks → list_of ropes' tasks ≡ list_of ropes first.tasks ++ list_of ropes s.tasks
+      → Appending ropes0 ropes' far0 (first0 ∷ []) rest (record { up = first.up; net = first.net + s.net; tasks = tasks } ∷ [])
+  before_on ropes' tasks low kept rope put =
+      appending_on laws ropes0 ropes far0 (first0 ∷ []) far (first ∷ []) rest s m next ropes'
+      (record { up = first.up; net = first.net + s.net; tasks = tasks } ∷ []) low kept (rope, tt)
+      (ap (λ (l : List ℕ). record { up = first.up; net = first.net + s.net; tasks = l } ∷ []) put
+      ∙ sym (joined_to_one (run_of ropes first) (run_of ropes s) low))
+      (omega arith)
+
 -- a side that is higher throughout is behind the other, whichever of the two is moved into the other
 module _ (laws : SideLaws) (old new : List (List ℕ)) (far near all : List Seg) (near_rises : IsRising (profile near))
     (far_rises : IsRising (profile far)) (higher : StartsAbove (last_up (profile near)) (profile far)) where
@@ -154,6 +178,20 @@ module _ (laws : SideLaws) (old new : List (List ℕ)) (far near all : List Seg)
   far_moved e = e ∙ laws.behind (runs_of old far) (runs_of old near) far_runs near_runs
       ∙ sym (laws.appends (runs_of old far) (runs_of old near) near_runs far_runs higher_runs)
 
+-- what is put in front of the others at last
+pub before_put : SideLaws
+    → (ropes0 ropes new : List (List ℕ)) (far0 far left all : List Seg) (first0 first : Seg)
+    → Appending ropes0 ropes far0 (first0 ∷ []) far (first ∷ []) → left ≡ far → StartsAbove first.up (profile far)
+    → IsRising (profile left) → runs_of new all ≡ insert_run true (run_of ropes first) (runs_of ropes left)
+    → (runs_of new all ≡ append_runs (runs_of ropes0 far0) (run_of ropes0 first0 ∷ [])) × (length all ≡ 1 + length left)
+before_put laws ropes0 ropes new far0 far left all first0 first m same higher rises put =
+    let up = subst (λ (l : List Seg). StartsAbove first.up (profile l)) (sym same) higher in
+    let e : runs_of new all ≡ append_runs (runs_of ropes left) (runs_of ropes (first ∷ [])) =
+    near_moved laws ropes new left (first ∷ []) all (tt, tt) rises up put in (
+      e ∙ ap (λ (l : List Seg). append_runs (runs_of ropes l) (runs_of ropes (first ∷ []))) same ∙ m.told,
+      joined_all laws ropes new left (first ∷ []) all (tt, tt) rises up e,
+    )
+
 -- ---- what is counted
 
 pub both_ok : {T E : Type 0} (r : Result T E) (P : T → Type 0) (Q : Type 0) (R : T → Type 0)
@@ -171,6 +209,11 @@ counted_joined near0 near far whole old new long short e f = record {
   within = omega arith;
   counted = let g : whole - near ≡ far = omega arith in f ∙ ap (λ (k : ℕ). old + min near k) (sym g);
 }
+
+-- one segment in front of others
+pub counted_first : (others whole old new : ℕ) → whole ≡ 1 + others → new ≡ old + min others 1 → CountsFewer 0 1 whole old new
+counted_first others whole old new w e =
+    record { own = 1; at_least = omega arith; at_most = omega arith; within = omega arith; counted = omega arith }
 
 -- with one more of the hill
 pub counted_over : (near near1 whole old new : ℕ) → near ≤ near1 → near1 ≤ near + 1 → 1 ≤ near1

@@ -21,7 +21,7 @@ use Rattle.segment_merge.specs.Laws.{SideLaws}
 use Rattle.sp_cuts.specs.Stacks.{total_of_parts, IsPartOf, ArePiled, stack_tasks, stack_total, SeriesReady, SeriesDone, SeriesSteps}
 use Rattle.sp_cuts.specs.Stacks.{ParReady, ParDone, PositionReady, PositionDone, AreMoved, ParSteps, PositionSteps}
 use Rattle.sp_cuts.proofs.Moves.{moved_hold, moved_series, moved_par, moved_bound}
-use Rattle.sp_cuts.proofs.Stacked.{one_more, hold_of, par_taken, two_tops, stack_length}
+use Rattle.sp_cuts.proofs.Stacked.{one_more, hold_of, par_taken, two_tops, two_taken, stack_length}
 use Rattle.lists.proofs.Options.{some_same}
 use Rattle.lists.proofs.Options.{none_some}
 
@@ -162,6 +162,19 @@ par_steps laws lists st ts rest total items ps at many s s' g piled moved n d le
   le,
   moved_par laws lists (suc (stack_tasks rest)) many st ts rest ps total
       (par_taken lists st ts rest items (take at items) ps at many g piled n refl d).all moved g,
+)
+
+pub pair_steps : SideLaws
+    → (lists : List (List ℕ)) (st : List Term) (ts : Parts) (rest : List Term) (total : ℕ) (items low1 low : List Part) (pa pb : Part)
+    → (s s' : ℕ)
+    → gather 2 st no_parts ≡ Some (ts, rest) → ArePiled lists st (reverse items) → AreMoved st total
+    → items ≡ low1 ++ pb ∷ [] → low1 ≡ low ++ pa ∷ [] → s' ≤ s + moves_in (pa ∷ pb ∷ [])
+    → (more : ℕ) × (s' ≤ s + more) × AreMoved (par ts ∷ rest) (total + more)
+pair_steps laws lists st ts rest total items low1 low pa pb s s' g piled moved top1 top2 le = (
+  moves_in (pa ∷ pb ∷ []),
+  le,
+  moved_par laws lists (suc (stack_tasks rest)) 2 st ts rest (pa ∷ pb ∷ []) total
+      (two_taken lists st ts rest items low1 low pa pb g piled top1 top2).all moved g,
 )
 
 hold_steps_go : (lists : List (List ℕ)) (items : List Part) (size s s' : ℕ) → s' ≤ s → PositionSteps lists items (Hold size) s s'

@@ -1,9 +1,9 @@
 -- Parts on a stack, and what joining some of them makes.
 use Rattle.std.proofs.Common.{◌≡◌, ℕ, zero, suc, ◌+◌, ◌≤◌, max, List, [], ◌∷◌, ◌++◌, refl, ap, sym, ◌∙◌, arith}
-use Rattle.std.proofs.Common.{subst, length, reverse, Some, take, drop, length-drop, take-append-drop}
+use Rattle.std.proofs.Common.{◌<◌, ◌-◌, subst, length, reverse, Some, take, drop, set, get_or, length-drop, take-append-drop}
 use Rattle.std.proofs.lemmas.Grind.{common_steps}
 use Rattle.std.specs.List.{sum_by}
-use Rattle.std.proofs.lemmas.List.{reverse-append}
+use Rattle.std.proofs.lemmas.List.{reverse-append, nil_from_length, set_split, set-get_or}
 use Rattle.std.proofs.lemmas.List.Sums.{sum_by-cons}
 use Rattle.limits.specs.Limits.{most_total}
 use Rattle.hill_valley.specs.Ropes.{Extends}
@@ -184,6 +184,17 @@ par_done laws r0 r2 ts rest low ps p items' t kept cut r peak new =
     subst (λ (l : List Part). ArePiled r2 (par ts ∷ rest) (reverse l)) (sym new)
     (one_more r2 rest (par ts) low p f (piled_kept laws r0 r2 rest (reverse low) t.piled kept))
 
+-- the part on top, where it is changed in place
+module _ (items : List Part) (top : ℕ) (some : 0 < length items) (last : top ≡ length items - 1) where
+  none_above : drop (suc top) items ≡ []
+  none_above = nil_from_length (drop (suc top) items) (length-drop (suc top) items ∙ omega arith)
+
+  pub with_top : (p : Part) → set items top p ≡ take top items ++ p ∷ []
+  with_top p = set_split items top p (omega arith) ∙ ap (λ (l : List Part). take top items ++ p ∷ l) none_above
+
+  pub is_top : (p : Part) → p ≡ get_or items top p → items ≡ take top items ++ p ∷ []
+  is_top p here = sym (set-get_or items top p) ∙ ap (set items top) (sym here) ∙ with_top p
+
 -- ---- the two parts on top
 
 pub record TwoTops (lists : List (List ℕ)) (st : List Term) (a b : Term) (low : List Part) (pa pb : Part) : Type 0 where
@@ -201,6 +212,12 @@ two_tops lists st a b items low1 low pa pb h e f =
     let g = subst (ArePiled lists (b ∷ a ∷ st)) (reverse_two items low1 low pa pb e f) h in
     let n : suc (task_count a + stack_tasks st) ≡ suc (stack_tasks st) + task_count a = omega arith in
     record { first = g.1.0; second = subst (λ (m : ℕ). IsPartOf lists m b pb) n g.0; below = g.1.1 }
+
+pub two_taken : (r0 : List (List ℕ)) (st : List Term) (ts : Parts) (rest : List Term) (items low1 low : List Part) (pa pb : Part)
+    → gather 2 st no_parts ≡ Some (ts, rest) → ArePiled r0 st (reverse items) → items ≡ low1 ++ pb ∷ [] → low1 ≡ low ++ pa ∷ []
+    → Taken r0 ts rest (pa ∷ pb ∷ []) (reverse low)
+two_taken r0 st ts rest items low1 low pa pb g piled e f =
+    taken r0 2 st ts rest (pa ∷ pb ∷ []) (reverse low) refl (subst (ArePiled r0 st) (reverse_two items low1 low pa pb e f) piled) g
 
 -- what series_part asks
 pub record Joined (lists : List (List ℕ)) (v : Task) (pa pb : Part) : Type 0 where

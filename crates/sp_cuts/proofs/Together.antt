@@ -1,17 +1,17 @@
 -- Parts that are split into their sides, and the part that the merged sides make.
-use Rattle.std.proofs.Common.{◌≡◌, ℕ, ◌+◌, ◌-◌, ◌≤◌, length, List, [], ◌∷◌, ◌++◌, refl, ap, sym, ◌∙◌, arith, subst, append_assoc}
+use Rattle.std.proofs.Common.{◌≡◌, ℕ, ◌+◌, ◌-◌, ◌≤◌, min, true, false, length, List, [], ◌∷◌, ◌++◌, refl, ap, sym, ◌∙◌, arith, subst, append_assoc}
 use Rattle.std.specs.List.{AllByRecursion, sum_by}
 use Rattle.std.proofs.lemmas.List.{append-nil, map-append, nil_from_length}
 use Rattle.std.proofs.lemmas.List.Sums.{sum_by-append, sum_by-cons}
 use Rattle.limits.specs.Limits.{most_total}
 use Rattle.side_laws.specs.Levels.{AllStart}
 use Rattle.side_laws.specs.Merging.{AllRising}
-use Rattle.side_laws.specs.Segments.{net_sum}
+use Rattle.side_laws.specs.Segments.{net_sum, IsRising}
 use Rattle.hill_valley.specs.declared.side.Seg.{Seg}
 use Rattle.hill_valley.specs.Ropes.{Extends}
-use Rattle.hill_valley.specs.Side.{profile, HaveRopes, Run, runs_of}
+use Rattle.hill_valley.specs.Side.{profile, HaveRopes, Run, runs_of, run_profile}
 use Rattle.segment_merge.specs.Laws.{SideLaws}
-use Rattle.segment_merge.specs.Merging.{merge_runs, all_runs_of, AllHaveRopes, net_sum_all, segment_count, longest}
+use Rattle.segment_merge.specs.Merging.{insert_runs, move_runs, merge_runs, all_runs_of, AllHaveRopes, net_sum_all, segment_count, longest}
 use Rattle.sp_terms.specs.Term.{Direction, forward, backward}
 use Rattle.cut_laws.specs.Cuts.{Cut, par_cut, fronts, backs, top_of, starts, sides}
 use Rattle.cut_laws.specs.Tops.{MeetsAtLeast, BothRise, tops}
@@ -142,6 +142,48 @@ ready laws lists parts fs bs start end low most h room s =
 pub moves_of : (parts : List Part) (fs bs : List (List Seg)) (start end low most : ℕ)
     → AreSplit parts fs bs start end low most → (segment_count fs - longest fs) + (segment_count bs - longest bs) ≡ moves_in parts
 moves_of parts fs bs start end low most s = rw (s.front, s.back) refl
+
+-- ---- two sides, and two parts
+
+module _ (laws : SideLaws) where
+  alone : (rs : List Run) → IsRising (run_profile rs) → insert_runs rs [] ≡ rs
+  alone rs h = sym (laws.behind [] rs tt h)
+
+  module _ (old new : List (List ℕ)) (first second all : List Seg) (r : IsRising (profile first)) (s : IsRising (profile second)) where
+    first_runs : IsRising (run_profile (runs_of old first))
+    first_runs = rw (laws.runs.profile old first) r
+
+    second_runs : IsRising (run_profile (runs_of old second))
+    second_runs = rw (laws.runs.profile old second) s
+
+    both : insert_runs (runs_of old first) (runs_of old second) ≡ merge_runs (runs_of old first ∷ runs_of old second ∷ [])
+    both = ap (insert_runs (runs_of old first)) (sym (alone (runs_of old second) second_runs))
+
+    pub first_moved : runs_of new all ≡ move_runs true (runs_of old first) (runs_of old second)
+        → runs_of new all ≡ merge_runs (runs_of old first ∷ runs_of old second ∷ [])
+    first_moved e = e ∙ laws.before (runs_of old first) (runs_of old second) first_runs ∙ both
+
+    pub second_moved : runs_of new all ≡ move_runs false (runs_of old second) (runs_of old first)
+        → runs_of new all ≡ merge_runs (runs_of old first ∷ runs_of old second ∷ [])
+    second_moved e = e ∙ laws.behind (runs_of old second) (runs_of old first) second_runs first_runs ∙ both
+
+    pub second_none : second ≡ [] → runs_of old first ≡ merge_runs (runs_of old first ∷ runs_of old second ∷ [])
+    second_none none = sym (alone (runs_of old first) first_runs)
+        ∙ ap (λ (l : List Seg). merge_runs (runs_of old first ∷ runs_of old l ∷ [])) (sym none)
+
+pub pair_split : (a b : Part) → AreSplit (a ∷ b ∷ []) (front_sides (a ∷ b ∷ [])) (backs_of (a ∷ b ∷ []))
+    (a.initial + b.initial) (a.fin + b.fin) (a.least + b.least) (a.peak + b.peak)
+pair_split a b = record {
+  front = refl;
+  back = refl;
+  start_is = omega arith;
+  end_is = omega arith;
+  low_is = omega arith;
+  most_is = omega arith;
+}
+
+pub pair_moves : (a b : Part) → min (length a.front) (length b.front) + min (length a.back) (length b.back) ≤ moves_in (a ∷ b ∷ [])
+pair_moves a b = omega arith
 
 -- ---- what the cuts of the parts keep
 

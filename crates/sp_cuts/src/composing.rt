@@ -1,6 +1,6 @@
 //! Parts in a row, with a task between them, and parts side by side.
 
-ghost use Rattle.std.specs.Prelude.{◌≡◌, ◌⊎◌, ℕ, ◌+◌, ◌<◌, ◌≤◌, max, List, [], ◌∷◌, ◌++◌, sum_by, IfOk};
+ghost use Rattle.std.specs.Prelude.{◌≡◌, ◌⊎◌, ℕ, ◌+◌, ◌<◌, ◌≤◌, max, List, [], ◌∷◌, ◌++◌, sum_by, IfOk, OnOk};
 ghost use Rattle.std.specs.List.{concat};
 ghost use Rattle.limits.specs.Limits.{most_total};
 ghost use Rattle.sp_terms.specs.Term.{Term, series, par, Parts, Direction, IsAllowed};
@@ -13,7 +13,7 @@ ghost use Rattle.sp_cuts.specs.Parts.{cut_of, cuts_of, IsPart, AreParts, hill_be
 ghost use Rattle.sp_cuts.specs.Splits.{IsRough, AreRough, AreSplit};
 
 use crate::NoMemory;
-use crate::hills::{Over, lead_over, way_over};
+use crate::hills::{Over, lead_back, lead_over, way_over};
 use crate::parts::{Part, hill_between};
 use hill_valley::{Ropes, Side};
 use mp_system::Task;
@@ -86,9 +86,37 @@ pub fn series_part<L: Ledger>(
     ensures steps { steps.new ≤ steps.old + moves_between a b }
     ensures counted { IfOk result (λ p. CountsMoves a b p steps.old steps.new) }
 {
+    let mut whole = a;
+    put_behind(&mut whole, name, hill, b, ropes, steps)?;
+    Ok(whole)
+}
+
+// The same in place: the first part becomes that of the series.
+pub(crate) fn put_behind<L: Ledger>(
+    a: &mut Part,
+    name: u32,
+    hill: u64,
+    b: Part,
+    ropes: &mut Ropes,
+    steps: &mut Steps<L>,
+) -> Result<(), NoMemory>
+    requires a { IsRough ropes.old a.old }
+    requires b { IsRough ropes.old b }
+    requires after { a.old.fin ≤ hill }
+    requires before { b.initial ≤ hill }
+    requires hill { hill ≤ most_total }
+    ensures cut { OnOk result (cut_of ropes.new a.new ≡ series_cut (cut_of ropes.old a.old) name hill (cut_of ropes.old b)) }
+    ensures peak { OnOk result (a.new.peak ≡ max a.old.peak (max hill b.peak)) }
+    ensures kinds { OnOk result (LiesInFirst (cut_of ropes.old a.old) (cut_of ropes.old b) hill (cut_of ropes.new a.new)
+        ⊎ LiesInSecond (cut_of ropes.old a.old) (cut_of ropes.old b) hill (cut_of ropes.new a.new)) }
+    ensures rough { OnOk result (IsRough ropes.new a.new) }
+    ensures kept { Extends ropes.old ropes.new }
+    ensures steps { steps.new ≤ steps.old + moves_between a.old b }
+    ensures counted { OnOk result (CountsMoves a.old b a.new steps.old steps.new) }
+{
     cut_laws::laws::series_law();
     laws::all();
-    let peak = a.peak.max(hill).max(b.peak);
+    a.peak = a.peak.max(hill).max(b.peak);
     if a.least <= b.least {
         let high = b.front.top(b.initial).max(hill);
         let tasks = way_over(&b.front, name, ropes)?;
@@ -97,15 +125,9 @@ pub fn series_part<L: Ledger>(
             level: a.fin,
             tasks,
         };
-        let back = lead_over(b.back, a.back, b.least, over, ropes, steps)?;
-        Ok(Part {
-            front: a.front,
-            back,
-            initial: a.initial,
-            fin: b.fin,
-            least: a.least,
-            peak,
-        })
+        lead_back(b.back, &mut a.back, b.least, over, ropes, steps)?;
+        a.fin = b.fin;
+        Ok(())
     } else {
         let high = a.back.top(a.fin).max(hill);
         let tasks = way_over(&a.back, name, ropes)?;
@@ -114,15 +136,11 @@ pub fn series_part<L: Ledger>(
             level: b.initial,
             tasks,
         };
-        let front = lead_over(a.front, b.front, a.least, over, ropes, steps)?;
-        Ok(Part {
-            front,
-            back: b.back,
-            initial: a.initial,
-            fin: b.fin,
-            least: b.least,
-            peak,
-        })
+        lead_over(&mut a.front, b.front, a.least, over, ropes, steps)?;
+        a.back = b.back;
+        a.fin = b.fin;
+        a.least = b.least;
+        Ok(())
     }
 }
 

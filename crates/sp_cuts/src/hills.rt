@@ -1,6 +1,6 @@
 //! A side that goes on over a hill to another side.
 
-ghost use Rattle.std.specs.Prelude.{◌≡◌, ◌+◌, ◌≤◌, min, length, List, IfOk};
+ghost use Rattle.std.specs.Prelude.{◌≡◌, ◌+◌, ◌≤◌, min, length, List, IfOk, OnOk};
 ghost use Rattle.limits.specs.Limits.{most_total};
 ghost use Rattle.side_laws.specs.Segments.{net_sum, top};
 ghost use Rattle.hill_valley.specs.Ropes.{list_of, IsRope, Extends};
@@ -10,9 +10,10 @@ ghost use Rattle.cut_laws.specs.Cuts.{over_task};
 ghost use Rattle.sp_cuts.specs.Parts.{CountsFewer};
 
 use crate::NoMemory;
-use crate::behind::append_side;
-use hill_valley::{Rope, Ropes, Side};
+use crate::behind::{append_side, put_before};
+use hill_valley::{Rope, Ropes, Seg, Side};
 use segment_merge::laws;
+use std::mem;
 use std::sync::ledger::Ledger;
 use step_count::Steps;
 
@@ -39,35 +40,77 @@ pub(crate) fn way_over(side: &Side, task: u32, ropes: &mut Ropes) -> Result<Rope
     ropes.join(up, last)
 }
 
-// The side that goes down `near` to the level `end`, over the way, and down `far`.
+// Goes on from the end of `near` at the level `end` over the way, and down `far`.
 pub(crate) fn lead_over<L: Ledger>(
-    mut near: Side,
+    near: &mut Side,
     mut far: Side,
     end: u64,
     over: Over,
     ropes: &mut Ropes,
     steps: &mut Steps<L>,
-) -> Result<Side, NoMemory>
-    requires near { HaveRopes ropes.old near }
+) -> Result<(), NoMemory>
+    requires near { HaveRopes ropes.old near.old }
     requires far { HaveRopes ropes.old far }
     requires rope { IsRope ropes.old over.tasks }
-    requires net { net_sum (profile near) + end ≤ most_total }
+    requires net { net_sum (profile near.old) + end ≤ most_total }
     requires room { net_sum (profile far) ≤ over.level }
     requires falls { over.level ≤ end + net_sum (profile far) }
     requires rises { end ≤ over.hill }
     requires top { top over.level (profile far) ≤ most_total }
     requires hill { over.hill ≤ most_total }
-    ensures segments { IfOk result (λ side. runs_of ropes.new side
-        ≡ cross_hill_runs end over.hill over.level (list_of ropes.old over.tasks) (runs_of ropes.old far) (runs_of ropes.old near)) }
-    ensures ropes { IfOk result (λ side. HaveRopes ropes.new side) }
+    ensures segments { OnOk result (runs_of ropes.new near.new
+        ≡ cross_hill_runs end over.hill over.level (list_of ropes.old over.tasks) (runs_of ropes.old far) (runs_of ropes.old near.old)) }
+    ensures ropes { OnOk result (HaveRopes ropes.new near.new) }
     ensures kept { Extends ropes.old ropes.new }
-    ensures steps { steps.new ≤ steps.old + min (length far) (length near + 1) }
-    ensures counted { IfOk result (λ side. CountsFewer (length near) (length near + 1) (length side) steps.old steps.new) }
+    ensures steps { steps.new ≤ steps.old + min (length far) (length near.old + 1) }
+    ensures counted { OnOk result (CountsFewer (length near.old) (length near.old + 1) (length near.new) steps.old steps.new) }
 {
     laws::all();
     let over = go_above(&mut far, ropes, end, over)?;
     near.append(ropes, over.hill - end, end - over.level, over.tasks)?;
-    append_side(far, near, ropes, steps)
+    append_side(far, near, ropes, steps)?;
+    Ok(())
+}
+
+// The same, told of `far`: a way without a side before it is put in front of it, where it stands.
+pub(crate) fn lead_back<L: Ledger>(
+    near: Side,
+    far: &mut Side,
+    end: u64,
+    over: Over,
+    ropes: &mut Ropes,
+    steps: &mut Steps<L>,
+) -> Result<(), NoMemory>
+    requires near { HaveRopes ropes.old near }
+    requires far { HaveRopes ropes.old far.old }
+    requires rope { IsRope ropes.old over.tasks }
+    requires net { net_sum (profile near) + end ≤ most_total }
+    requires room { net_sum (profile far.old) ≤ over.level }
+    requires falls { over.level ≤ end + net_sum (profile far.old) }
+    requires rises { end ≤ over.hill }
+    requires top { top over.level (profile far.old) ≤ most_total }
+    requires hill { over.hill ≤ most_total }
+    ensures segments { OnOk result (runs_of ropes.new far.new
+        ≡ cross_hill_runs end over.hill over.level (list_of ropes.old over.tasks) (runs_of ropes.old far.old) (runs_of ropes.old near)) }
+    ensures ropes { OnOk result (HaveRopes ropes.new far.new) }
+    ensures kept { Extends ropes.old ropes.new }
+    ensures steps { steps.new ≤ steps.old + min (length far.old) (length near + 1) }
+    ensures counted { OnOk result (CountsFewer (length near) (length near + 1) (length far.new) steps.old steps.new) }
+{
+    laws::all();
+    if 0 < near.len() {
+        let last = mem::replace(far, near);
+        lead_over(far, last, end, over, ropes, steps)?;
+        return Ok(());
+    }
+    let over = go_above(far, ropes, end, over)?;
+    let way = Seg {
+        up: over.hill - end,
+        net: end - over.level,
+        tasks: over.tasks,
+    };
+    put_before(way, far, ropes, steps)?;
+    Ok(())
 }
 
 // Goes on along a side as long as it is higher than `end`.

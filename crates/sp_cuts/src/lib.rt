@@ -7,6 +7,7 @@
 #![tactic(auto)]
 
 mod behind;
+mod beside;
 mod composing;
 mod hills;
 pub mod laws;

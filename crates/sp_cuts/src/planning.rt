@@ -17,7 +17,8 @@ ghost use Rattle.sp_cuts.specs.Stacks.{IsPartOf, SeriesReady, SeriesDone, Series
 ghost use Rattle.sp_cuts.specs.Stacks.{PositionDone, PositionSteps};
 
 use crate::NoMemory;
-use crate::composing::{parallel_part, series_part, with_peak};
+use crate::beside::put_beside;
+use crate::composing::{parallel_part, put_behind, with_peak};
 use crate::notes::Notes;
 use crate::noting::note_position;
 use crate::parts::{Part, hill_between, hold};
@@ -165,15 +166,56 @@ fn push_series<L: Ledger>(
 {
     laws::all();
     let Some(b) = stack.pop() else { unreachable!() };
-    let Some(a) = stack.pop() else { unreachable!() };
-    let hill = hill_between(&a, &task, &b);
-    let part = series_part(a, number, hill, b, ropes, steps)?;
-    stack.push(part)?;
+    let Some(a) = stack.last_mut() else {
+        unreachable!()
+    };
+    let hill = hill_between(a, &task, &b);
+    put_behind(a, number, hill, b, ropes, steps)?;
     Ok(())
 }
 
 // Sets the parts on top of the stack side by side.
 fn push_par<L: Ledger>(
+    alloc: Global,
+    stack: &mut Vec<Part>,
+    many: u32,
+    ropes: &mut Ropes,
+    steps: &mut Steps<L>,
+) -> Result<(), NoMemory>
+    requires ready { ParReady ropes.old stack.old.items many }
+    ensures done { OnOk result (ParDone ropes.old ropes.new stack.old.items stack.new.items many) }
+    ensures kept { Extends ropes.old ropes.new }
+    ensures steps { ParSteps ropes.old stack.old.items many steps.old steps.new }
+{
+    if many == 2 {
+        push_pair(stack, ropes, steps)
+    } else {
+        push_parts(alloc, stack, many, ropes, steps)
+    }
+}
+
+// The same for two parts, the first of which stays where it is.
+fn push_pair<L: Ledger>(
+    stack: &mut Vec<Part>,
+    ropes: &mut Ropes,
+    steps: &mut Steps<L>,
+) -> Result<(), NoMemory>
+    requires ready { ParReady ropes.old stack.old.items 2 }
+    ensures done { OnOk result (ParDone ropes.old ropes.new stack.old.items stack.new.items 2) }
+    ensures kept { Extends ropes.old ropes.new }
+    ensures steps { ParSteps ropes.old stack.old.items 2 steps.old steps.new }
+{
+    laws::all();
+    let Some(b) = stack.pop() else { unreachable!() };
+    let Some(a) = stack.last_mut() else {
+        unreachable!()
+    };
+    put_beside(a, b, ropes, steps)?;
+    Ok(())
+}
+
+// The same for any number of them.
+fn push_parts<L: Ledger>(
     alloc: Global,
     stack: &mut Vec<Part>,
     many: u32,

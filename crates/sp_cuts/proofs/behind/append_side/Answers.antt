@@ -1,5 +1,5 @@
 use Rattle.std.proofs.Common.{length, arith}
-use Rattle.sp_cuts.proofs.Appended.{appending_starts, appending_first, appending_on, both_ok, counted_joined}
+use Rattle.sp_cuts.proofs.Appended.{appending_starts, appending_first, appending_on, counted_joined}
 use Rattle.sp_cuts.proofs.behind.append_side.Goals as goal
 
 pub loop-seg-init : goal.loop-seg-init
@@ -21,7 +21,6 @@ loop-seg-preserved g c = record {
 
 pub returns-clause-counted : goal.returns-clause-counted
 returns-clause-counted g c =
-    both_ok c.join_sides.result _ _ _
-    (λ side long steps. counted_joined (length c.args.near) (length c.loop-seg.near) (length c.take_first_within.new.self)
-    (length side) _ _ c.loop-seg.invariant.appending.long c.loop-seg.invariant.appending.short long steps)
-    c.join_sides.ensures.length c.join_sides.ensures.counted
+    counted_joined (length c.args.near.now) (length c.loop-seg.near) (length c.take_first_within.new.self)
+    (length c.join_sides.new.near) _ _ c.loop-seg.invariant.appending.long c.loop-seg.invariant.appending.short
+    c.in_ok-join_sides.ensures.length c.in_ok-join_sides.ensures.counted

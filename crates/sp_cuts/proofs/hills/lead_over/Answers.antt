@@ -1,6 +1,5 @@
-use Rattle.std.proofs.Common.{◌≡◌, ◌+◌, ◌≤◌, length, subst, List, IfOk, arith}
-use Rattle.hill_valley.specs.Side.{Run, runs_of}
-use Rattle.std.proofs.lemmas.Result.{IfOk-weaker}
+use Rattle.std.proofs.Common.{◌+◌, ◌≤◌, length, arith, ◌∙◌}
+use Rattle.hill_valley.specs.Side.{runs_of}
 use Rattle.sp_cuts.proofs.Appended.{length_runs, longer, counted_over}
 use Rattle.sp_cuts.proofs.Crossed.{over_told}
 use Rattle.sp_cuts.proofs.Counts.{one_longer}
@@ -21,31 +20,35 @@ append_side-requires-clause-net g c = let n = c.in_ok-append.ensures.net in
 
 pub returns-clause-segments : goal.returns-clause-segments
 returns-clause-segments g c =
-    subst (λ (z : List Run). IfOk c.append_side.result (λ side. runs_of c.append_side.new.ropes side ≡ z))
-    (over_told c.all.ensures _ _ _ _ _ _ _ _ _ _ _ _ _ _ c.requires.near c.go_above.ensures.kept
-    c.in_ok-over.ensures.far c.append.ensures.kept c.in_ok-over.ensures.crossing c.in_ok-append.ensures.segments)
-    c.append_side.ensures.segments
+    c.in_ok-append_side.ensures.segments
+    ∙ over_told c.all.ensures _ _ _ _ _ _ _ _ _ _ _ _ _ _ c.requires.near c.go_above.ensures.kept
+    c.in_ok-over.ensures.far c.append.ensures.kept c.in_ok-over.ensures.crossing c.in_ok-append.ensures.segments
+
+pub returns-in_err-append_side-clause-steps : goal.returns-in_err-append_side-clause-steps
+returns-in_err-append_side-clause-steps g c =
+    let f = c.append_side.ensures.far_steps in
+    let n = c.append_side.ensures.near_steps in
+    let w = c.in_ok-over.ensures.fewer in
+    let one : length (runs_of c.append.new.ropes c.append.new.self) ≤ length (runs_of c.go_above.new.ropes c.args.near.now) + 1 =
+    one_longer _ _ _ c.in_ok-append.ensures.segments in
+    omega (arith, length_runs c.append.new.ropes c.append.new.self, length_runs c.go_above.new.ropes c.args.near.now)
 
 pub returns-clause-steps : goal.returns-clause-steps
 returns-clause-steps g c =
     let f = c.append_side.ensures.far_steps in
     let n = c.append_side.ensures.near_steps in
     let w = c.in_ok-over.ensures.fewer in
-    let one : length (runs_of c.append.new.ropes c.append.new.self) ≤ length (runs_of c.go_above.new.ropes c.args.near) + 1 =
+    let one : length (runs_of c.append.new.ropes c.append.new.self) ≤ length (runs_of c.go_above.new.ropes c.args.near.now) + 1 =
     one_longer _ _ _ c.in_ok-append.ensures.segments in
-    omega (arith, length_runs c.append.new.ropes c.append.new.self, length_runs c.go_above.new.ropes c.args.near)
+    omega (arith, length_runs c.append.new.ropes c.append.new.self, length_runs c.go_above.new.ropes c.args.near.now)
 
 pub returns-clause-counted : goal.returns-clause-counted
 returns-clause-counted g c =
-    let one : length (runs_of c.append.new.ropes c.append.new.self) ≤ length (runs_of c.go_above.new.ropes c.args.near) + 1 =
+    let one : length (runs_of c.append.new.ropes c.append.new.self) ≤ length (runs_of c.go_above.new.ropes c.args.near.now) + 1 =
     one_longer _ _ _ c.in_ok-append.ensures.segments in
-    let more : (length (runs_of c.go_above.new.ropes c.args.near) ≤ length (runs_of c.append.new.ropes c.append.new.self))
+    let more : (length (runs_of c.go_above.new.ropes c.args.near.now) ≤ length (runs_of c.append.new.ropes c.append.new.self))
     × (1 ≤ length (runs_of c.append.new.ropes c.append.new.self)) = longer _ _ _ c.in_ok-append.ensures.segments in
     let own = length_runs c.append.new.ropes c.append.new.self in
-    let near = length_runs c.go_above.new.ropes c.args.near in
-    let short : length c.args.near ≤ length c.append.new.self = omega (arith, more.0) in
-    let long : length c.append.new.self ≤ length c.args.near + 1 = omega arith in
-    let some : 1 ≤ length c.append.new.self = omega (arith, more.1) in
-    IfOk-weaker c.append_side.result _ _
-    (λ side x. counted_over (length c.args.near) (length c.append.new.self) (length side) _ _ short long some x)
-    c.append_side.ensures.counted
+    let near = length_runs c.go_above.new.ropes c.args.near.now in
+    counted_over (length c.args.near.now) (length c.append.new.self) (length c.append_side.new.near) _ _ (omega (arith, more.0))
+    (omega arith) (omega (arith, more.1)) c.in_ok-append_side.ensures.counted

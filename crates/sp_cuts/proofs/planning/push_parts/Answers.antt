@@ -1,7 +1,7 @@
 use Rattle.std.proofs.Common.{◌-◌, arith, drop, refl}
 use Rattle.sp_cuts.proofs.Stacked.{many_fit, par_taken, par_done, all_rough, all_peaks}
 use Rattle.sp_cuts.proofs.Pushed.{par_steps}
-use Rattle.sp_cuts.proofs.planning.push_par.Goals as goal
+use Rattle.sp_cuts.proofs.planning.push_parts.Goals as goal
 
 pub overflow_sub-at : goal.overflow_sub-at
 overflow_sub-at g c = let n =
