@@ -52,7 +52,7 @@ pub fn room_for_claims()
 /// elimination that was analysed: so each column of the factor has the same rows, and two columns share a front in the analysis of the new
 /// order exactly where they did before any were merged. Where none were merged, and the fronts are in a postorder of their tree, the new
 /// order is its own natural postorder, and its analysis has the same fronts, numbered in that order: a solver that postorders the
-/// elimination tree makes them in just that order. Liu 1990 and 1992.
+/// elimination tree, children by rising number, makes them in just that order. Liu 1990 and 1992.
 pub fn columns_of_analysis()
     ensures along { (m : GivenMatrix) (options : FrontOptions) (nodes : List Node) (front_of columns fronts : List ℕ) →
         (is : AreAnalysed m options nodes front_of columns) →

@@ -74,8 +74,8 @@ pub fn same_fronts()
 }
 
 /// Fronts in a postorder of their tree, none merged, give an order of elimination that is its own natural postorder: a solver that
-/// postorders the elimination tree of this order keeps it. Its analysis has the same fronts, each with as many columns and rows, and with
-/// the same parent, numbered in that postorder: so the solver makes them in just that order. Liu 1986, 1990.
+/// postorders the elimination tree of this order, children by rising number, keeps it. Its analysis has the same fronts, each with as many
+/// columns and rows, and with the same parent, numbered in that postorder: so the solver makes them in just that order. Liu 1986, 1990.
 pub fn fronts_in_postorder()
     ensures kept { (rows : List (List ℕ)) (order perm fronts : List ℕ) (assembly : AssemblyTree) → IsPattern rows →
         IsPerm (length rows) order → IsAnalysis rows order perm assembly → IsFrontPostorder assembly.supers fronts →
