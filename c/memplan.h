@@ -181,6 +181,10 @@ enum memplan_kind {
     MEMPLAN_KIND_NO_SUCH_FRONT = 74  /* at: the first column whose front is none of those in the order */
 };
 
+/* What a kind says, in a few words: "a parent is no node". Never null: "refused" where no kind has this number. The text is the library's.
+ * Tested alone. */
+const char *memplan_message(uint32_t kind);
+
 /* ---- trees ---- */
 
 /* A traversal of least peak of a tree.

@@ -66,6 +66,58 @@ module memplan
    ! Shapes.
    integer(c_int32_t), parameter, public :: memplan_triangle = 0, memplan_square = 1
 
+   ! Kinds of faults, as tools/make_messages.py makes them.
+   integer(c_int32_t), parameter, public :: memplan_kind_no_memory = 1
+   integer(c_int32_t), parameter, public :: memplan_kind_room = 2
+   integer(c_int32_t), parameter, public :: memplan_kind_claim_room = 3
+   integer(c_int32_t), parameter, public :: memplan_kind_workers = 4
+   integer(c_int32_t), parameter, public :: memplan_kind_no_node = 10
+   integer(c_int32_t), parameter, public :: memplan_kind_many_tasks = 11
+   integer(c_int32_t), parameter, public :: memplan_kind_parent = 12
+   integer(c_int32_t), parameter, public :: memplan_kind_time = 13
+   integer(c_int32_t), parameter, public :: memplan_kind_size = 14
+   integer(c_int32_t), parameter, public :: memplan_kind_long_time = 15
+   integer(c_int32_t), parameter, public :: memplan_kind_total = 16
+   integer(c_int32_t), parameter, public :: memplan_kind_cycle = 17
+   integer(c_int32_t), parameter, public :: memplan_kind_share = 18
+   integer(c_int32_t), parameter, public :: memplan_kind_unknown = 20
+   integer(c_int32_t), parameter, public :: memplan_kind_repeated = 21
+   integer(c_int32_t), parameter, public :: memplan_kind_too_early = 22
+   integer(c_int32_t), parameter, public :: memplan_kind_missing = 23
+   integer(c_int32_t), parameter, public :: memplan_kind_bound_below = 30
+   integer(c_int32_t), parameter, public :: memplan_kind_working_set = 31
+   integer(c_int32_t), parameter, public :: memplan_kind_long_order = 40
+   integer(c_int32_t), parameter, public :: memplan_kind_great_peak = 41
+   integer(c_int32_t), parameter, public :: memplan_kind_many_claims = 42
+   integer(c_int32_t), parameter, public :: memplan_kind_claim = 43
+   integer(c_int32_t), parameter, public :: memplan_kind_other_peak = 44
+   integer(c_int32_t), parameter, public :: memplan_kind_no_root_claim = 45
+   integer(c_int32_t), parameter, public :: memplan_kind_wrong_claim = 46
+   integer(c_int32_t), parameter, public :: memplan_kind_many_items = 50
+   integer(c_int32_t), parameter, public :: memplan_kind_ends = 51
+   integer(c_int32_t), parameter, public :: memplan_kind_item_size = 52
+   integer(c_int32_t), parameter, public :: memplan_kind_many_uses = 53
+   integer(c_int32_t), parameter, public :: memplan_kind_counts = 54
+   integer(c_int32_t), parameter, public :: memplan_kind_readers = 55
+   integer(c_int32_t), parameter, public :: memplan_kind_apart = 56
+   integer(c_int32_t), parameter, public :: memplan_kind_rising = 57
+   integer(c_int32_t), parameter, public :: memplan_kind_base = 60
+   integer(c_int32_t), parameter, public :: memplan_kind_no_column = 61
+   integer(c_int32_t), parameter, public :: memplan_kind_many_columns = 62
+   integer(c_int32_t), parameter, public :: memplan_kind_many_entries = 63
+   integer(c_int32_t), parameter, public :: memplan_kind_start = 64
+   integer(c_int32_t), parameter, public :: memplan_kind_entries = 65
+   integer(c_int32_t), parameter, public :: memplan_kind_row = 66
+   integer(c_int32_t), parameter, public :: memplan_kind_places = 67
+   integer(c_int32_t), parameter, public :: memplan_kind_no_such_column = 68
+   integer(c_int32_t), parameter, public :: memplan_kind_column_repeated = 69
+   integer(c_int32_t), parameter, public :: memplan_kind_degree = 70
+   integer(c_int32_t), parameter, public :: memplan_kind_shape = 71
+   integer(c_int32_t), parameter, public :: memplan_kind_node_room = 72
+   integer(c_int32_t), parameter, public :: memplan_kind_column_fronts = 73
+   integer(c_int32_t), parameter, public :: memplan_kind_no_such_front = 74
+   ! The end of the kinds.
+
    ! The effort of memplan_plan_shared where nothing else is known.
    integer(c_int64_t), parameter, public :: memplan_effort = 1000000000_c_int64_t
 
@@ -75,6 +127,7 @@ module memplan
    public :: memplan_core_size, memplan_core_new, memplan_core_begin, memplan_core_begin_system, memplan_core_begin_shared
    public :: memplan_core_activate, memplan_core_next, memplan_core_start, memplan_core_finish, memplan_core_is_startable
    public :: memplan_core_is_done, memplan_core_used, memplan_core_booked, memplan_core_end
+   public :: memplan_message
 
    interface
       function memplan_plan_tree(nodes, count, order, places, peak, fault) result(status) bind(c)
@@ -333,5 +386,12 @@ module memplan
          import :: c_ptr
          type(c_ptr), value :: core
       end subroutine memplan_core_end
+
+      ! A text of C, which ends with a zero.
+      function memplan_message(kind) result(text) bind(c)
+         import :: c_int32_t, c_ptr
+         integer(c_int32_t), value :: kind
+         type(c_ptr) :: text
+      end function memplan_message
    end interface
 end module memplan
