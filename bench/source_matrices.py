@@ -1,11 +1,11 @@
 #!/usr/bin/env python3
-"""Finds the matrices in SuiteSparse's source package and writes them as Matrix Market files.
+"""Finds the matrices in the source packages of SuiteSparse and METIS and writes them as Matrix Market files.
 
 usage: source_matrices.py SOURCE_FOLDER OUT_FOLDER
 
-SOURCE_FOLDER is what `apt-get source suitesparse` unpacks. Its matrices come in five forms: Matrix
-Market; triplets with a head (CHOLMOD) and without one (CSparse, CXSparse); Rutherford-Boeing and
-Harwell-Boeing; lists of columns (LDL). Only patterns of square matrices are written, each once,
+SOURCE_FOLDER is what `apt-get source suitesparse` or `apt-get source metis` unpacks. Matrices come in
+six forms: Matrix Market; triplets with a head (CHOLMOD) and without one (CSparse, CXSparse);
+Rutherford-Boeing and Harwell-Boeing; lists of columns (LDL); METIS's graphs. Only patterns of square matrices are written, each once,
 with the two triangles put together. The files are named by the source's.
 """
 import re
@@ -76,6 +76,16 @@ def column_lists(lines: list[str]) -> Pattern:
     return pattern_of(order, order, by_columns(starts, rows, 0))
 
 
+def neighbour_lists(lines: list[str]) -> Pattern:
+    """METIS's: a head `vertices edges`, then the neighbours of each vertex, from 1."""
+    body = [line.split() for line in lines if not line.startswith("%")]
+    if len(body[0]) != 2:
+        raise Unread("weights")
+    order = int(body[0][0])
+    pairs = ((v, int(it)) for v, row in enumerate(body[1 : order + 1], 1) for it in row)
+    return pattern_of(order, order, pairs)
+
+
 def by_columns(starts: list[int], rows: list[int], first: int) -> Iterator[tuple[int, int]]:
     for column, (start, end) in enumerate(zip(starts, starts[1:]), 1):
         for row in rows[start - first : end - first]:
@@ -115,6 +125,8 @@ def form_of(path: Path) -> Optional[object]:
     """How a file is read, by its name and its place."""
     if path.suffix == ".mtx":
         return market
+    if path.suffix == ".graph" and path.parent.name == "graphs":
+        return neighbour_lists
     if path.suffix in (".rb", ".rua", ".rsa", ".rra"):
         return boeing
     if path.suffix:

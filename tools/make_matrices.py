@@ -1,7 +1,8 @@
 #!/usr/bin/env python3
-"""Makes a matrix file, to measure with: a grid, a random pattern, a band or chains; or a permutation file for a grid.
+"""Makes a matrix file, to measure with: a grid, a cube, a random pattern, a band or chains; or a permutation file for a grid.
 
 usage: make_matrices.py grid ROWS COLUMNS FILE
+       make_matrices.py cube SIDE HEIGHT FILE
        make_matrices.py dissection ROWS COLUMNS FILE
        make_matrices.py random VERTICES ENTRIES FILE
        make_matrices.py band VERTICES WIDTH FILE
@@ -10,9 +11,10 @@ usage: make_matrices.py grid ROWS COLUMNS FILE
        make_matrices.py chains CHAINS LENGTH FILE
 
 The grid has the number r * COLUMNS + c + 1 for the vertex in row r and column c, both from 0, and joins each to its right and to its
-lower neighbour. The entries of a random pattern are drawn from all pairs of indices, with a value each; those of `pattern` have none. The
-numbers come from a small generator with a fixed seed: the same call makes the same file. A band joins each vertex to those that are at most
-WIDTH numbers away; in a valued one each entry has a value.
+lower neighbour. A cube has HEIGHT grids of SIDE rows and columns one over the other, and joins each vertex to the one over it. The entries of
+a random pattern are drawn from all pairs of indices, with a value each; those of `pattern` have none. The numbers come from a small generator
+with a fixed seed: the same call makes the same file. A band joins each vertex to those that are at most WIDTH numbers away; in a valued one
+each entry has a value.
 
 Chains are paths of so many vertices, side by side, before a separator. The first vertex of each path is joined to 20,000 vertices of the separator,
 each later one to one more of it. So in the order of their numbers each vertex of a path is a front of its own, of 20,000 rows and more, and the
@@ -37,6 +39,20 @@ def grid(out, rows, columns):
                 out.write(f"{vertex + 1} {vertex}\n")
             if row + 1 < rows:
                 out.write(f"{vertex + columns} {vertex}\n")
+
+
+def cube(out, side, height):
+    square, entries = side * side, 2 * side * (side - 1) * height + side * side * (height - 1)
+    out.write("%%MatrixMarket matrix coordinate pattern symmetric\n")
+    out.write(f"{square * height} {square * height} {entries}\n")
+    for vertex in range(1, square * height + 1):
+        place = (vertex - 1) % square
+        if place % side + 1 < side:
+            out.write(f"{vertex + 1} {vertex}\n")
+        if place + side < square:
+            out.write(f"{vertex + side} {vertex}\n")
+        if vertex + square <= square * height:
+            out.write(f"{vertex + square} {vertex}\n")
 
 
 def random_pattern(out, vertices, entries):
@@ -118,6 +134,7 @@ def main():
     with open(name, "w") as out:
         makers = {
             "grid": grid,
+            "cube": cube,
             "dissection": dissection,
             "random": random_pattern,
             "pattern": unvalued,

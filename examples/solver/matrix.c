@@ -62,7 +62,7 @@ static void set_laplacian(struct matrix *matrix)
 }
 
 /* A symmetric matrix of reals keeps its values; of any other the pattern counts, with the values of a Laplacian. */
-void read_matrix(struct matrix *matrix, const char *name)
+static void read_matrix(struct matrix *matrix, const char *name)
 {
     FILE *file = fopen(name, "r");
     char line[4096], field[64], symmetry[64];
@@ -139,19 +139,29 @@ static void make_grid(struct matrix *matrix, int side, int depth, const struct s
     set_laplacian(matrix);
 }
 
-void make_square(struct matrix *matrix, int side)
+static int is_grid(const char *input, const char *kind, int most, int *side)
 {
-    make_grid(matrix, side, 1, FIVE_POINT, 2);
+    size_t length = strlen(kind);
+    if (strncmp(input, kind, length) != 0 || input[length] != ':')
+        return 0;
+    *side = atoi(input + length + 1);
+    if (*side < 1 || *side > most)
+        fail("a side that is too small or too great");
+    return 1;
 }
 
-void make_nine_point_square(struct matrix *matrix, int side)
+/* A grid, or a file. */
+void make_matrix(struct matrix *matrix, const char *input)
 {
-    make_grid(matrix, side, 1, NINE_POINT, 4);
-}
-
-void make_cube(struct matrix *matrix, int side)
-{
-    make_grid(matrix, side, side, SEVEN_POINT, 3);
+    int side;
+    if (is_grid(input, "square", 1000, &side))
+        make_grid(matrix, side, 1, FIVE_POINT, 2);
+    else if (is_grid(input, "nine", 1000, &side))
+        make_grid(matrix, side, 1, NINE_POINT, 4);
+    else if (is_grid(input, "cube", 100, &side))
+        make_grid(matrix, side, side, SEVEN_POINT, 3);
+    else
+        read_matrix(matrix, input);
 }
 
 void free_matrix(struct matrix *matrix)

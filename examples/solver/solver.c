@@ -215,30 +215,6 @@ static void run_options(const struct matrix *matrix, const uint32_t *order, size
     free_analysis(&analysis);
 }
 
-static int is_grid(const char *input, const char *kind, int most, int *side)
-{
-    size_t length = strlen(kind);
-    if (strncmp(input, kind, length) != 0 || input[length] != ':')
-        return 0;
-    *side = atoi(input + length + 1);
-    if (*side < 1 || *side > most)
-        fail("a side that is too small or too great");
-    return 1;
-}
-
-static void make_matrix(struct matrix *matrix, const char *input)
-{
-    int side;
-    if (is_grid(input, "square", 1000, &side))
-        make_square(matrix, side);
-    else if (is_grid(input, "nine", 1000, &side))
-        make_nine_point_square(matrix, side);
-    else if (is_grid(input, "cube", 100, &side))
-        make_cube(matrix, side);
-    else
-        read_matrix(matrix, input);
-}
-
 /* How many vertices the order has: all, or none where it is to be that of minimum degree. */
 static size_t make_order(uint32_t *order, size_t count, const char *name)
 {

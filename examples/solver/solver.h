@@ -45,10 +45,8 @@ void *table(uint64_t length, uint64_t size);
 /* Ends the program where a call of memplan was refused. */
 void check(uint32_t status, const memplan_fault *fault);
 
-void read_matrix(struct matrix *matrix, const char *name);
-void make_square(struct matrix *matrix, int side);
-void make_nine_point_square(struct matrix *matrix, int side);
-void make_cube(struct matrix *matrix, int side);
+/* A Matrix Market file, or a grid: square:SIDE (five-point stencil), nine:SIDE (nine-point), cube:SIDE (seven-point, in space). */
+void make_matrix(struct matrix *matrix, const char *input);
 void free_matrix(struct matrix *matrix);
 
 /* The columns are eliminated in an order; where it has no places, in that of minimum degree. */
