@@ -41,6 +41,7 @@ from memplan.dask import (
     dask_order,
     least_bound,
     of_collection,
+    plan,
     run,
     runner,
 )
@@ -247,10 +248,30 @@ def a_task_is_tried_again_within_the_bound(client: Client) -> None:
 
 
 def a_result_greater_than_stated_ends_the_run(client: Client) -> None:
+    tasks = [workloads.task_of(0, 2 * MB, 0, 0), workloads.task_of(1, MB, 3 * MB, 0, (0,))]
+    tasks[0] = tasks[0]._replace(size=MB)
+    for bound in (5 * MB, 6 * MB - 1):  # what is left fits, and with it the next task does not
+        error = raised(ResultTooLarge, run, tasks, bound, client)
+        assert (error.task, error.size, error.stated) == (0, 2 * MB, MB)
+        leaves_nothing(client)
+    error = raised(ResultTooLarge, run, tasks[:1], 2 * MB - 1, client)  # what is left does not fit
+    assert (error.task, error.size, error.stated) == (0, 2 * MB, MB)
+    leaves_nothing(client)
+
+
+def a_result_greater_than_stated_takes_what_room_there_is(client: Client) -> None:
     tasks = workloads.random_tree(40).tasks
-    tasks[20] = tasks[20]._replace(size=tasks[20].size - 1)
-    error = raised(ResultTooLarge, run, tasks, 2 * least_bound(tasks, client), client)
-    assert (error.task, error.size, error.stated) == (20, tasks[20].size + 1, tasks[20].size)
+    wanted = plain_digests(client, tasks, sorted(graph_of(tasks, 0).kept))
+    settled_records(client)
+    stated = [task._replace(size=task.size * 9 // 10) for task in tasks]
+    bound = 2 * least_bound(tasks, client)
+    futures = run(stated, bound, client)
+    assert digests(client, futures) == wanted
+    assert futures.summary is not None and len(futures.summary.greater()) == len(tasks)
+    assert futures.summary.enough == least_bound(tasks, client, plan(stated, client).order)
+    del futures
+    top, rest = blocks.top_and_rest(settled_records(client))
+    assert rest == 0 and 0 < top <= bound, (top, rest, bound)
     leaves_nothing(client)
 
 
@@ -393,7 +414,8 @@ CHECKS_ON_ANY_CLUSTER: List[Tuple[str, Check]] = [
     ("several collections are computed together", several_collections_are_computed_together),
     ("what a task raises ends the run", what_a_task_raises_ends_the_run),
     ("a task is tried again within the bound", a_task_is_tried_again_within_the_bound),
-    ("a result greater than stated ends the run", a_result_greater_than_stated_ends_the_run),
+    ("a result greater than stated ends the run where it has no room", a_result_greater_than_stated_ends_the_run),
+    ("a result greater than stated takes what room there is", a_result_greater_than_stated_takes_what_room_there_is),
     ("a bound below the peak is refused", a_bound_below_the_peak_is_refused),
     ("an order that is none is refused", an_order_that_is_none_is_refused),
     ("a cancelled task ends the run", a_cancelled_task_ends_the_run),

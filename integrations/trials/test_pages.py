@@ -14,6 +14,7 @@ from clusters import cluster
 from harness import run_all
 from memplan import Core
 from memplan.admission import Admission, ResultGraph
+from memplan.dask import Task
 
 HERE = Path(__file__).resolve().parent
 PAGES = ("docs/WORKFLOWS.md", "integrations/dask/README.md", "integrations/threads/README.md")
@@ -38,6 +39,8 @@ def scope_of(client: Any) -> Dict[str, Any]:
     graph = {"inputs": [()], "sizes": [1], "extras": [0], "bound": 1, "order": [0], "waiting": [], "task": 0, "result": 0}
     x = dask.array.ones((8, 8), chunks=4)
     names = ["north", "south"]
+    size = 1000
+    graph["tasks"] = [Task(load, (name,), size=size) for name in names] + [Task(merge, inputs=(0, 1), size=size)]
     core = {"Admission": Admission, "ResultGraph": ResultGraph, "Core": Core}
     return {"client": client, "load": load, "merge": merge, "names": names, "x": x, **graph, **core}
 

@@ -217,10 +217,12 @@ def no_tasks_have_no_results(client: Client) -> None:
 
 def a_bound_that_is_no_whole_number_is_refused(client: Client) -> None:
     tasks = [Task(identity, (1,), (), KB)]
-    for bound in ("1GB", 1e9, None, numpy.float64(1e6)):
+    for bound in ("much", "1 yard", 1e9, None, numpy.float64(1e6)):
         for some in (tasks, []):
-            assert f"the bound is a whole number of bytes, as an int, and not {bound!r}" in str(raised(TypeError, run, some, bound, client))
-    assert run(tasks, numpy.int64(KB), client)[0].result() == (1,)
+            words = f"the bound is a whole number of bytes, as an int, or in words as '2GB', and not {bound!r}"
+            assert words in str(raised(TypeError, run, some, bound, client))
+    for bound in (numpy.int64(KB), "1kB", "1 KiB"):
+        assert run(tasks, bound, client)[0].result() == (1,)
     leaves_nothing(client)
 
 
@@ -242,11 +244,11 @@ def fails(*_: Any) -> None:
 
 
 def the_default_size_is_told_where_it_is_too_small(client: Client) -> None:
-    tasks = [Task(len, ("abc",), key="length"), Task(identity, (), (0,), 2 * KB)]
-    error = raised(ResultTooLarge, run, tasks, KB * KB, client)
+    tasks = [Task(len, ("abc",), key="length")]
+    error = raised(ResultTooLarge, run, tasks, sys.getsizeof(3) - 1, client)
     assert (error.task, error.key, error.size, error.stated) == (0, "length", sys.getsizeof(3), 0)
     assert "task 0 (length) left 28 bytes" in str(error) and "0 were stated" in str(error) and "Task(.., size=..)" in str(error)
-    error = raised(ResultTooLarge, run, [tasks[0]._replace(key=None)], KB * KB, client)
+    error = raised(ResultTooLarge, run, [tasks[0]._replace(key=None)], 0, client)
     assert error.key is None and str(error).startswith("task 0 left 28 bytes")
     leaves_nothing(client)
 
@@ -258,7 +260,7 @@ def errors_have_the_keys_of_a_collection(client: Client) -> None:
     assert error.key == tasks[error.task].key and error.key in {(broken.name, 0), (broken.name, 1)}
     assert str(error).startswith(f"task {error.task} {error.key} raised ArithmeticError")
     tasks, _ = of_collection(delayed(identity)("a", dask_key_name="letter"), lambda key: (1, 0))
-    error = raised(ResultTooLarge, run, tasks, KB, client)
+    error = raised(ResultTooLarge, run, tasks, 50, client)
     assert (error.task, error.key) == (0, "letter") and "task 0 (letter) left" in str(error)
     leaves_nothing(client)
 

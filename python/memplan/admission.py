@@ -13,13 +13,13 @@ from __future__ import annotations
 import reprlib
 from itertools import islice
 from operator import index
-from typing import Collection, Dict, List, Optional, Sequence, Set, SupportsIndex, Tuple
+from typing import Collection, Dict, List, NamedTuple, Optional, Sequence, Set, SupportsIndex, Tuple
 
 from . import Core, Refused, SharedItem, plan, plan_shared, replay_shared
 from ._numbers import U32, U64, column, whole
 from ._types import WholeNumbers
 
-__all__ = ["EFFORT_OF_A_RUN", "MOST_RUNNING", "Admission", "BoundTooLow", "Graph", "GraphRefused", "ResultGraph"]
+__all__ = ["EFFORT_OF_A_RUN", "MOST_RUNNING", "Admission", "BoundTooLow", "Graph", "GraphRefused", "NoRoom", "ResultGraph", "ResultPlan"]
 
 MOST_RUNNING = 4096
 """How many tasks may run at once: as many as a core has workers."""
@@ -73,6 +73,15 @@ class GraphRefused(Refused):
         self.value = 0
 
 
+class NoRoom(RuntimeError):
+    """Results are greater than the graph says, by ``more`` together, and what is there, or what is to start next, does not fit the bound."""
+
+    def __init__(self, bound: int, more: int) -> None:
+        super().__init__(f"results are greater than stated, by {more} together, and the bound of {bound} has no room for them")
+        self.bound = bound
+        self.more = more
+
+
 _WORDS = {
     10: "there is no task",
     11: "there are more than 1,000,000 tasks",
@@ -101,6 +110,19 @@ def _inputs_of(inputs: Sequence[Collection[int]]) -> List[Tuple[int, ...]]:
         return [tuple(dict.fromkeys(_tasks(f"inputs[{task}][{{}}]", consumed))) for task, consumed in enumerate(inputs)]
     left = iter(results)
     return [tuple(dict.fromkeys(islice(left, len(consumed)))) for consumed in inputs]
+
+
+class ResultPlan(NamedTuple):
+    """An order of tasks, from 0, its peak, and a bound that no order has a peak below."""
+
+    order: List[int]
+    peak: int
+    bound: int
+
+    @property
+    def is_least(self) -> bool:
+        """Whether no order has a lower peak."""
+        return self.peak == self.bound
 
 
 class ResultGraph:
@@ -182,12 +204,22 @@ class ResultGraph:
         return [int(task) - 1 for task in order]
 
     def planned_from(self, start: WholeNumbers, effort: SupportsIndex = EFFORT_OF_A_RUN) -> List[int]:
-        """An order of any graph whose peak is not above that of the order ``start``: of least peak where `memplan.plan_shared` has one,
-        else the best that it finds with so much effort.
+        """An order of any graph whose peak is not above that of the order ``start``: that of `plan_from`.
 
         >>> graph = ResultGraph([(), (0,), (0,), (1, 2)], sizes=[10, 1, 10, 2], extras=[0, 0, 0, 0])
         >>> graph.planned_from([0, 2, 1, 3])
         [0, 1, 2, 3]
+        """
+        return self.plan_from(start, effort).order
+
+    def plan_from(self, start: WholeNumbers, effort: SupportsIndex = EFFORT_OF_A_RUN) -> ResultPlan:
+        """An order of any graph, its peak, which is not above that of the order ``start``, and a bound that no order has a peak below. It is
+        of least peak where `memplan.plan_shared` has one, else the best that it finds with so much effort.
+
+        >>> graph = ResultGraph([(), (0,), (0,), (1, 2)], sizes=[10, 1, 10, 2], extras=[0, 0, 0, 0])
+        >>> plan = graph.plan_from([0, 2, 1, 3])
+        >>> plan.order, plan.peak, plan.bound, plan.is_least
+        ([0, 1, 2, 3], 21, 21, True)
         """
         numbered = self.numbered(start)
         if not numbered:
@@ -197,7 +229,7 @@ class ResultGraph:
             found = plan_shared(tasks, items, numbered, effort)
         except Refused as refusal:
             raise self.told(refusal, start) from None
-        return [int(task) - 1 for task in found.order]
+        return ResultPlan([int(task) - 1 for task in found.order], found.peak, found.bound)
 
     def least_bound(self, order: WholeNumbers) -> int:
         """The peak of an order, which is the least bound along it.
@@ -286,23 +318,60 @@ class Admission:
         self._uses = [len(users) for users in graph.consumers]
         self._ready: List[int] = []
         self._running = 0
+        self._bound = index(bound)
+        self._differences: Dict[int, int] = {}  # of results that are there, from what the graph says
+        self._more = 0  # all of these together
         self.left = self._tasks
         """How many tasks are not finished."""
+        self.most_booked = self.most_used = 0
+        """The greatest `Core.booked` so far, and the greatest `used`, corrected by what was weighed."""
 
     def ready(self) -> List[int]:
         """The tasks that may start from now on; each is told once."""
         while task := self._core.activate():
             self._clear(task - 1)
+        self.most_booked = max(self.most_booked, self._core.booked)
         ready, self._ready = self._ready, []
         return ready
 
     def start(self, task: SupportsIndex) -> bool:
-        """Starts a task that is ready; no where as many run as may (`MOST_RUNNING`): then it may start once another has finished."""
+        """Starts a task that is ready; no where as many run as may (`MOST_RUNNING`), or where results that are greater than stated leave it
+        no room: then it may start once another has finished. `NoRoom` where there is no other."""
+        number = whole("task", task, U32)
         if self._running == MOST_RUNNING:
             return False
-        self._must(self._core.start(whole("task", task, U32) + 1))
+        if self._more > 0 and self.used + self._more + self._need_of(number) > self._bound:
+            if self._running == 0:
+                raise NoRoom(self._bound, self._more)
+            return False
+        self._must(self._core.start(number + 1))
         self._running += 1
+        self.most_used = max(self.most_used, self.used + self._more)
         return True
+
+    def _need_of(self, task: int) -> int:
+        return self._graph.sizes[task] + self._graph.extras[task] if task < self._tasks else 0
+
+    def weigh(self, result: int, size: SupportsIndex) -> None:
+        """The result that a task leaves takes so much, which may be less or more than the graph says: told before `done`, or again where
+        it was measured anew. What is less makes room for what is more. `NoRoom` where what is there is now more than the bound.
+
+        >>> runs = Admission(ResultGraph([(), (0,)], sizes=[10, 1], extras=[0, 9]), bound=20)
+        >>> runs.ready(), runs.start(0), runs.weigh(0, 12)
+        ([0], True, None)
+        >>> runs.done(0)
+        >>> runs.ready()
+        [1]
+        >>> runs.start(1)
+        Traceback (most recent call last):
+        memplan.admission.NoRoom: results are greater than stated, by 2 together, and the bound of 20 has no room for them
+        """
+        difference = whole("size", size, U64) - self._graph.sizes[result]
+        self._more += difference - self._differences.get(result, 0)
+        self._differences[result] = difference
+        self.most_used = max(self.most_used, self.used + self._more)
+        if difference > 0 and self.used + self._more > self._bound:
+            raise NoRoom(self._bound, self._more)
 
     def spent(self, task: int) -> List[int]:
         """The results that are of no more use once this task has them. Each task is asked for once, after those it waits for."""
@@ -325,6 +394,7 @@ class Admission:
     def gone(self, result: int) -> None:
         """The result that a task left is in no memory any more."""
         self._gone.add(result)
+        self._more -= self._differences.pop(result, 0)
         if result in self._last_reader:
             self._settle(self._last_reader.pop(result))
 

@@ -5,6 +5,6 @@ from importlib import import_module
 
 import memplan.dask
 
-for name in ("errors", "inside", "placement", "remote", "runner", "tasks", "versions"):
+for name in ("errors", "inside", "placement", "remote", "runner", "sizes", "structure", "summary", "tasks", "versions"):
     sys.modules[f"{__name__}.{name}"] = import_module(f"memplan.dask.{name}")
 sys.modules[__name__] = memplan.dask

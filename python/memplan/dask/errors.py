@@ -78,6 +78,20 @@ class TasksInACycle(Refused):
         self.tasks = list(tasks)
 
 
+class SizesUnknown(ValueError):
+    """No size of some tasks of a collection is known. ``names`` are theirs, without tokens, with how many there are of each."""
+
+    _NAMED = 5
+
+    def __init__(self, names: Mapping[str, int]) -> None:
+        told = [f"{name} ({count})" for name, count in list(names.items())[: self._NAMED]]
+        more = ", .." if len(names) > self._NAMED else ""
+        super().__init__(
+            f"no size is known of {', '.join(told)}{more}: record() a run of the collection, tell the sizes, or give Sizes an otherwise"
+        )
+        self.names: Dict[str, int] = dict(names)
+
+
 # What ends a run
 
 
@@ -95,12 +109,13 @@ class TaskFailed(RunError):
 
 
 class ResultTooLarge(RunError):
-    """A task left more than was stated, so what is there may pass the bound. State its size as `dask.sizeof.sizeof` measures it."""
+    """A task left more than was stated, and the bound has no room for what it left beside. ``size`` is what it left, as
+    `dask.sizeof.sizeof` measures it, and ``stated`` what was said."""
 
     def __init__(self, task: int, key: Optional[Hashable], size: int, stated: int) -> None:
         super().__init__(
-            f"{named(task, key)} left {size} bytes as dask.sizeof measures them, and {stated} were stated:"
-            " give the task a size that is enough (Task(.., size=..), or the sizes of of_collection)"
+            f"{named(task, key)} left {size} bytes as dask.sizeof measures them, {stated} were stated, and the bound has no room for more:"
+            " take a greater bound, or give the task a size that is enough (Task(.., size=..), or the sizes of of_collection)"
         )
         self.task = task
         self.key = key

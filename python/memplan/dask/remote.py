@@ -7,7 +7,7 @@ from __future__ import annotations
 
 import traceback
 from time import time
-from typing import Any, Callable, Dict, List, Sequence
+from typing import Any, Callable, Dict, List, Sequence, Tuple
 
 from distributed import SchedulerPlugin, WorkerPlugin
 
@@ -26,6 +26,51 @@ def caller() -> Callable[[Callable[..., Any], List[Any]], Any]:
             inputs.clear()
 
     return call
+
+
+def measurer() -> Callable[[Callable[..., Any], Sequence[Any]], Tuple[Any, int, int, bool]]:
+    """Calls a function and measures it: its result, the size of that, what was needed beside, and whether the size is no sample. Of the
+    threads of a process one measures at a time."""
+
+    def measure(function: Callable[..., Any], inputs: Sequence[Any]) -> Tuple[Any, int, int, bool]:
+        import threading
+        import tracemalloc
+
+        from dask.sizeof import sizeof
+
+        with threading.__dict__.setdefault("_memplan_measures", threading.Lock()):
+            was_traced = tracemalloc.is_tracing()
+            if was_traced:
+                tracemalloc.reset_peak()
+            else:
+                tracemalloc.start()
+            try:
+                before = tracemalloc.get_traced_memory()[0]
+                result = function(*inputs)
+                most = tracemalloc.get_traced_memory()[1] - before
+            finally:
+                if not was_traced:
+                    tracemalloc.stop()
+        size = 0 if result is None else int(sizeof(result))
+        kind = getattr(getattr(result, "dtype", None), "hasobject", None)
+        is_exact = result is None or isinstance(result, (bool, int, float)) or (type(result).__module__ == "numpy" and kind is False)
+        return result, size, max(0, most - size), is_exact
+
+    return measure
+
+
+def teller() -> Callable[..., Any]:
+    """Measures a task on a worker, tells of it over a topic, and gives back the result alone."""
+    measure = measurer()
+
+    def tell(function: Callable[..., Any], topic: str, task: int, *inputs: Any) -> Any:
+        from distributed import get_worker
+
+        result, *told = measure(function, inputs)
+        get_worker().log_event(topic, (task, *told))
+        return result
+
+    return tell
 
 
 def watch(run: str) -> WorkerPlugin:

@@ -2,21 +2,33 @@
 
 from __future__ import annotations
 
-import operator
 import time
 import uuid
 from functools import partial
 from queue import Empty, SimpleQueue
-from typing import Any, Callable, Collection, Dict, List, Optional, Sequence, Tuple
+from typing import Any, Callable, Collection, Dict, List, Optional, Sequence, Tuple, Union
 
 import dask
 from distributed import Client, Future
-from ..admission import Admission
+from ..admission import EFFORT_OF_A_RUN, Admission
 
 from . import remote
-from .errors import EngineStopped, ResultTooLarge, Standstill, TaskFailed, WorkerLost, keys_told, named
+from .errors import EngineStopped, Standstill, TaskFailed, WorkerLost, keys_told, named
 from .placement import Placement
-from .tasks import Task, graph_of, home_of, order_of, refuse_annotations, refuse_cycles, refuse_unbooked
+from .summary import Results, Weights
+from .tasks import (
+    LeastBound,
+    Task,
+    TaskPlan,
+    bytes_of,
+    graph_of,
+    home_of,
+    order_of,
+    plan_of,
+    refuse_annotations,
+    refuse_cycles,
+    refuse_unbooked,
+)
 from .versions import require_scheduler
 
 PATIENCE = 30.0
@@ -33,14 +45,15 @@ _SECONDS_OF_SILENCE = 1.0
 
 def run(
     tasks: Sequence[Task],
-    bound: int,
+    bound: Union[int, str],
     client: Client,
     order: Optional[Sequence[int]] = None,
     retries: int = 0,
     workers: Optional[Sequence[str]] = None,
     patience: float = PATIENCE,
-) -> Dict[int, Future]:
-    """Runs the tasks with at most ``bound`` bytes of results and extras on all workers together; the futures of the results that stay.
+) -> Results:
+    """Runs the tasks with at most ``bound`` bytes of results and extras on all workers together; the futures of the results that stay, and
+    in ``summary`` how near it came to that. The bound is a whole number, or words as Dask's, ``"2GB"`` or ``"1.5 GiB"``.
 
     The tasks run along ``order`` (tasks, from 0). Without one they run along an order of least peak where each result has one consumer,
     and else along a plan that begins with Dask's order, and is never worse (`dask_order` is Dask's own). ``retries`` says how often a task
@@ -56,30 +69,50 @@ def run(
     >>> [(task, future.result()) for task, future in futures.items()]
     [(1, 0)]
     """
-    try:
-        bound = operator.index(bound)
-    except TypeError:
-        raise TypeError(f"the bound is a whole number of bytes, as an int, and not {bound!r}") from None
+    bound = bytes_of(bound)
     _check(tasks, client)
     require_scheduler(client.run_on_scheduler(remote.lacking()))
     refuse_annotations(dask.config.get("annotations", None))
-    return _Run(tasks, bound, client, order, retries, workers, patience).results() if tasks else {}
+    return _Run(tasks, bound, client, order, retries, workers, patience).results() if tasks else Results()
 
 
 def least_bound(
     tasks: Sequence[Task], client: Client, order: Optional[Sequence[int]] = None, workers: Optional[Sequence[str]] = None
-) -> int:
-    """The least bound that `run` takes for these tasks on these workers.
+) -> LeastBound:
+    """The least bound that `run` takes for these tasks on these workers: a whole number of bytes, whose ``below`` no order has a peak below.
 
-    >>> least_bound([Task(list, size=1000), Task(len, inputs=(0,), size=1000)], CLIENT)
-    2000
+    >>> least = least_bound([Task(list, size=1000), Task(len, inputs=(0,), size=1000)], CLIENT)
+    >>> least, least.below, least.is_least
+    (2000, 2000, True)
+    """
+    if order is None:
+        made = plan(tasks, client, workers)
+        return LeastBound(made.peak, made.bound)
+    _check(tasks, client)
+    if not tasks:
+        return LeastBound(0, 0)
+    with keys_told([task.key for task in tasks]):
+        graph = graph_of(tasks, _others(_threads(client, workers)))
+        return LeastBound(graph.least_bound(order), plan_of(graph, order, 0).bound)
+
+
+def plan(
+    tasks: Sequence[Task], client: Client, workers: Optional[Sequence[str]] = None, effort: int = EFFORT_OF_A_RUN
+) -> TaskPlan:
+    """The order that `run` takes for these tasks on these workers, if no other is given, with its peak and a bound that no order has a peak
+    below. With more ``effort`` more is searched where the graph is not series-parallel: some 100 million steps a second.
+
+    >>> from memplan.dask import plan
+    >>> made = plan([Task(list, size=1000, key="one"), Task(len, inputs=(0,), size=1000, key="two")], CLIENT)
+    >>> made.order, made.names, made.peak, made.is_least
+    ([0, 1], ['one', 'two'], 2000, True)
     """
     _check(tasks, client)
     if not tasks:
-        return 0
+        return TaskPlan([], 0, 0, [])
     with keys_told([task.key for task in tasks]):
-        graph = graph_of(tasks, _others(_threads(client, workers)))
-        return graph.least_bound(order_of(graph) if order is None else order)
+        found = plan_of(graph_of(tasks, _others(_threads(client, workers))), None, effort)
+    return TaskPlan(*found, [tasks[task].key for task in found.order])
 
 
 def _check(tasks: Sequence[Task], client: Client) -> None:
@@ -123,6 +156,8 @@ class _Run:
             graph = graph_of(tasks, _others(threads))
             order = order_of(graph) if order is None else order
             self.admission = Admission(graph, bound, order)
+        self.order = order
+        self.weights = Weights(tasks, graph, self.admission, _others(threads), bound, graph.least_bound(order))
         self.placement = Placement(threads, {task: rank for rank, task in enumerate(order)})
         self.call = remote.caller()
         self.events: SimpleQueue[Tuple[Any, ...]] = SimpleQueue()
@@ -135,14 +170,14 @@ class _Run:
         for task, home in enumerate(self.homes):
             self.at_home.setdefault(home, []).append(task)
 
-    def results(self) -> Dict[int, Future]:
+    def results(self) -> Results:
         try:
             self._listen()
             self._start_ready()
             while self.admission.left:
                 self._handle(self._next_event())
                 self._start_ready()
-            kept = dict(sorted(self.futures.items()))
+            kept = self.weights.results(self.futures, self.order)
             self.futures.clear()
             return kept
         except BaseException:
@@ -156,7 +191,7 @@ class _Run:
     def _start_ready(self) -> None:
         for task in self.admission.ready():
             self.placement.add(task, self._places_of(task))
-        while (found := self.placement.next()) is not None and self.admission.start(found[0]):
+        while (found := self.placement.next()) is not None and self.weights.start(found[0]):
             self._submit(*found)
 
     def _places_of(self, task: int) -> Optional[Collection[str]]:
@@ -221,8 +256,7 @@ class _Run:
         """A result is in a worker's memory: its task has run there, or it was copied."""
         task = self._task_of(key)
         stated = self.tasks[task].size
-        if size > stated:
-            raise ResultTooLarge(task, self.tasks[task].key, size, stated)
+        self.weights.weigh(task, size)
         self.placement.hold(worker, size - self.holders[task].get(worker, 0))
         self.holders[task][worker] = size
         self.placement.widen(self.at_home.get(task, ()), worker)

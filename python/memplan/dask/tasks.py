@@ -2,8 +2,9 @@
 
 from __future__ import annotations
 
+import operator
 from graphlib import CycleError, TopologicalSorter
-from typing import Any, Callable, Dict, Hashable, List, Mapping, NamedTuple, Optional, Sequence, SupportsIndex, Tuple
+from typing import Any, Callable, Dict, Hashable, List, Mapping, NamedTuple, Optional, Sequence, Set, SupportsIndex, Tuple
 
 import dask
 import dask.order
@@ -11,10 +12,11 @@ from dask.base import unpack_collections
 from dask.core import flatten, get_dependencies
 from dask.highlevelgraph import HighLevelGraph, Layer
 from dask.optimization import SubgraphCallable
+from dask.utils import parse_bytes
 from distributed import Future
 from .._runs import steps_of
 from .._work import Ordered
-from ..admission import ResultGraph
+from ..admission import EFFORT_OF_A_RUN, ResultGraph, ResultPlan
 from ..graphs import Graph
 
 from .errors import AnnotationRefused, TasksInACycle, UnbookedData
@@ -33,6 +35,45 @@ class Task(NamedTuple):
     extra: int = 0
     kept: bool = False
     key: Optional[Hashable] = None
+
+
+class LeastBound(int):
+    """A number of bytes: the peak of an order. ``below`` is one that no order has a peak below, which is proved."""
+
+    below: int
+
+    def __new__(cls, peak: int, below: int) -> "LeastBound":
+        made = super().__new__(cls, peak)
+        made.below = below
+        return made
+
+    @property
+    def is_least(self) -> bool:
+        """Whether no order has a lower peak."""
+        return self.below == self
+
+
+class TaskPlan(NamedTuple):
+    """An order of tasks, from 0, its peak, a bound that no order has a peak below, and the keys of the tasks in the order."""
+
+    order: List[int]
+    peak: int
+    bound: int
+    names: List[Optional[Hashable]]
+
+    @property
+    def is_least(self) -> bool:
+        """Whether no order has a lower peak."""
+        return self.peak == self.bound
+
+
+def bytes_of(bound: Any) -> int:
+    """A whole number of bytes, or one in words: ``"2GB"``."""
+    try:
+        return parse_bytes(bound) if isinstance(bound, str) else operator.index(bound)
+    except (TypeError, ValueError):
+        told = "the bound is a whole number of bytes, as an int, or in words as '2GB'"
+        raise TypeError(f"{told}, and not {bound!r}") from None
 
 
 def of_graph(
@@ -76,9 +117,19 @@ def graph_of(tasks: Sequence[Task], others: int) -> ResultGraph:
     return ResultGraph(inputs, [size * (1 + copied) for size, copied in zip(sizes, copies)], extras, kept)
 
 
+def plan_of(graph: ResultGraph, order: Optional[Sequence[int]] = None, effort: int = EFFORT_OF_A_RUN) -> ResultPlan:
+    """A plan of least peak where each result has one consumer, else one that begins with ``order``, or without one with Dask's own, and is
+    never worse; its tasks count from 0."""
+    if graph.is_forest and order is None:
+        found = graph.planned()
+        peak = graph.least_bound(found)
+        return ResultPlan(found, peak, peak)
+    return graph.plan_from(order_of_dask(graph) if order is None else order, effort)
+
+
 def order_of(graph: ResultGraph) -> List[int]:
-    """An order of least peak where each result has one consumer; else a plan that begins with Dask's own order, and is never worse."""
-    return graph.planned() if graph.is_forest else graph.planned_from(order_of_dask(graph))
+    """The order of `plan_of`."""
+    return plan_of(graph).order
 
 
 def order_of_dask(graph: ResultGraph) -> List[int]:
@@ -120,46 +171,84 @@ def refuse_annotations(annotations: Optional[Mapping[str, Any]], layer: Optional
         raise AnnotationRefused(annotation, value, layer)
 
 
-def of_collection(
-    collection: Any, sizes: Callable[[Hashable], Tuple[int, int]]
-) -> Tuple[List[Task], Callable[[Dict[int, Future]], Any]]:
+class Read(NamedTuple):
+    """A collection, or several, as Dask would compute them: ``graph`` is optimized, ``inputs`` has for each key those that its task reads, in
+    the order of the graph, ``wanted`` those of the results, ``layers`` the graphs before they were optimized, and ``rebuild`` makes
+    collections of results by their keys."""
+
+    graph: Dict[Hashable, Any]
+    inputs: Dict[Hashable, List[Hashable]]
+    wanted: Set[Hashable]
+    layers: List[Any]
+    rebuild: Callable[[Mapping[Hashable, Any]], Any]
+
+
+def read(collection: Any) -> Read:
+    """Refused as by `of_collection`."""
+    given, repack = unpack_collections(collection)
+    if not given:
+        raise TypeError(f"there is no Dask collection in {collection!r}")
+    layers = [one.__dask_graph__() for one in given]
+    for one in layers:
+        _refuse_annotated_layers(one)
+    collections = dask.optimize(*given)
+    graph: Dict[Hashable, Any] = {}
+    for one in collections:
+        graph.update(one.__dask_graph__())
+    index = {key: number for number, key in enumerate(graph)}
+    for key, value in graph.items():
+        found = unbooked(value, f"graph[{key!r}]")
+        if found is not None:
+            raise UnbookedData(index[key], key, *found)
+    inputs = {key: sorted(get_dependencies(graph, key), key=index.__getitem__) for key in graph}
+    wanted = set(flatten([one.__dask_keys__() for one in collections]))
+
+    def rebuild(results: Mapping[Hashable, Any]) -> Any:
+        return repack([_of_results(one, {key: results[key] for key in flatten(one.__dask_keys__())}) for one in collections])[0]
+
+    return Read(graph, inputs, wanted, layers, rebuild)
+
+
+def tasks_of(it: Read, told: Mapping[Hashable, Tuple[int, int]]) -> List[Task]:
+    """Its tasks, in the order of the graph, with the size and the extra of each key."""
+    index = {key: number for number, key in enumerate(it.graph)}
+    tasks = []
+    for key, value in it.graph.items():
+        inputs = it.inputs[key]
+        function = SubgraphCallable({key: value}, key, inputs)
+        tasks.append(Task(function, (), tuple(map(index.__getitem__, inputs)), *told[key], key in it.wanted, key))
+    return tasks
+
+
+def of_collection(collection: Any, sizes: Any = None) -> Tuple[List[Task], Callable[[Dict[int, Future]], Any]]:
     """The tasks of a Dask collection, and a function that makes a collection of their results, as `dask.persist` does.
 
     Several collections are given as `dask.compute` takes them, in a tuple, a list or a dict, and come back as they were given. They are
-    optimized first, together, so that small tasks are fused. ``sizes`` tells for each key of the graph that comes of it the size and the
-    extra of its task.
+    optimized first, together, so that small tasks are fused. ``sizes`` are those that `record` has measured, `Sizes`, or tell for each key
+    of the graph that comes of it the size and the extra of its task, as a function or a mapping. Without any the shapes and dtypes of
+    arrays tell them, as ``Sizes()`` does.
 
-    Raises `AnnotationRefused` where a layer has annotations of the caller's, and `UnbookedData` where the graph has futures, as that of a
-    collection has that is persisted.
+    Raises `AnnotationRefused` where a layer has annotations of the caller's, `UnbookedData` where the graph has futures, as that of a
+    collection has that is persisted, and `SizesUnknown` where the size of a task is told by nothing.
 
     >>> total = dask.delayed(sum)([1, 2], dask_key_name="total")
     >>> tasks, rebuild = of_collection(total, lambda key: (28, 0))
     >>> [(task.key, task.size) for task in tasks]
     [('total', 28)]
     """
-    given, repack = unpack_collections(collection)
-    if not given:
-        raise TypeError(f"there is no Dask collection in {collection!r}")
-    for one in given:
-        _refuse_annotated_layers(one.__dask_graph__())
-    collections = dask.optimize(*given)
-    graph: Dict[Hashable, Any] = {}
-    for one in collections:
-        graph.update(one.__dask_graph__())
-    wanted = set(flatten([one.__dask_keys__() for one in collections]))
-    index = {key: number for number, key in enumerate(graph)}
-    tasks = []
-    for key, value in graph.items():
-        found = unbooked(value, f"graph[{key!r}]")
-        if found is not None:
-            raise UnbookedData(index[key], key, *found)
-        inputs = sorted(get_dependencies(graph, key), key=index.__getitem__)
-        size, extra = sizes(key)
-        function = SubgraphCallable({key: value}, key, inputs)
-        tasks.append(Task(function, (), tuple(index[it] for it in inputs), size, extra, key in wanted, key))
+    it = read(collection)
+    if sizes is None:
+        from .sizes import Sizes  # here, since that module stands on this one
+
+        sizes = Sizes()
+    if hasattr(sizes, "of_graph"):
+        told = sizes.of_graph(it.graph, it.inputs, it.layers)
+    else:
+        told = {key: sizes[key] if isinstance(sizes, Mapping) else sizes(key) for key in it.graph}
+    tasks = tasks_of(it, told)
 
     def rebuild(futures: Dict[int, Future]) -> Any:
-        return repack([_of_results(one, {key: futures[index[key]] for key in flatten(one.__dask_keys__())}) for one in collections])[0]
+        return it.rebuild({task.key: futures[number] for number, task in enumerate(tasks) if number in futures})
 
     return tasks, rebuild
 
