@@ -24,32 +24,9 @@ import sys
 from pathlib import Path
 from typing import Optional
 
-try:
-    import matplotlib
-
-    matplotlib.use("Agg")
-except ImportError:
-    sys.exit(
-        "draw.py: matplotlib is missing: apt-get install python3-matplotlib,"
-        " and use /usr/bin/python3"
-    )
-
-from matplotlib import pyplot
-
 # The package of this repository, without a file written beside it.
 sys.dont_write_bytecode = True
 sys.path.insert(0, str(Path(__file__).resolve().parent.parent / "python"))
-try:
-    from drawing.look import STYLE, printable
-except ImportError as lack:
-    sys.exit(f"draw.py: there is no library, which `make -C c` makes: {str(lack).splitlines()[0]}")
-
-from drawing.pictures import draw_fronts, draw_memory, draw_run, draw_stairs
-from drawing.system import system_of_tree, system_of_workflow
-from drawing.text import Refusal
-
-# The status where a file is refused.
-REFUSED = 3
 
 
 # Words
@@ -67,13 +44,14 @@ def whole_number(word: str) -> int:
     return int(word)
 
 
-def add_picture(kinds, name: str, draw, told: str) -> argparse.ArgumentParser:
+def add_picture(kinds, name: str, told: str) -> argparse.ArgumentParser:
     """The words of a kind of picture, which begin with the file to make."""
     parser = kinds.add_parser(name, help=told, description=f"Draws {told}.")
     parser.add_argument("picture", type=picture_name, help="the file to make: .svg or .png")
-    unit = "what memory is counted in: entries, if nothing else is said, or units of a workflow"
+    unit = "what memory is counted in: entries, or of a workflow or a graph units"
     parser.add_argument("--unit", metavar="WORD", help=unit)
-    parser.set_defaults(draw=draw, tree=None, workflow=None)
+    parser.add_argument("--title", metavar="WORDS", help="what stands above the picture")
+    parser.set_defaults(kind=name, tree=None, workflow=None, graph=None)
     return parser
 
 
@@ -81,10 +59,11 @@ def add_input(parser: argparse.ArgumentParser) -> None:
     one = parser.add_mutually_exclusive_group(required=True)
     one.add_argument("--tree", metavar="FILE", help="a tree file, as `tree` prints it for a matrix")
     one.add_argument("--workflow", metavar="FILE", help="a workflow file")
+    one.add_argument("--graph", metavar="FILE", help="a graph file, of version 1 or 2")
 
 
 def add_memory(kinds) -> None:
-    parser = add_picture(kinds, "memory", draw_memory, "memory over time of one or more orders")
+    parser = add_picture(kinds, "memory", "memory over time of one or more orders")
     add_input(parser)
     by = "what runs from left to right: tasks, each as wide (the default), or their durations"
     parser.add_argument("--by", choices=("tasks", "time"), default="tasks", help=by)
@@ -97,7 +76,7 @@ def add_memory(kinds) -> None:
 
 def add_run(kinds) -> None:
     told = "a simulated run, as a Gantt chart over used and booked memory"
-    parser = add_picture(kinds, "run", draw_run, told)
+    parser = add_picture(kinds, "run", told)
     add_input(parser)
     bound = "the bound of the run, which is drawn as a line"
     parser.add_argument("--bound", type=whole_number, help=bound)
@@ -106,7 +85,7 @@ def add_run(kinds) -> None:
 
 def add_stairs(kinds) -> None:
     told = "the staircases of a subtree: the lowest memory that is reached within each bound"
-    parser = add_picture(kinds, "stairs", draw_stairs, told)
+    parser = add_picture(kinds, "stairs", told)
     number = "the node of a tree, or the position of a workflow"
     parser.add_argument("--number", type=whole_number, required=True, help=number)
     parser.add_argument("report", metavar="REPORT", help="what `segments` printed")
@@ -114,7 +93,7 @@ def add_stairs(kinds) -> None:
 
 def add_fronts(kinds) -> None:
     told = "the tree of fronts: each with its memory, and on its edge that of the block it leaves"
-    parser = add_picture(kinds, "fronts", draw_fronts, told)
+    parser = add_picture(kinds, "fronts", told)
     most = (
         "how many nodes are drawn, from the roots down the greatest first (40); of the others the "
         "number is told"
@@ -133,32 +112,22 @@ def parser_of_words() -> argparse.ArgumentParser:
     return parser
 
 
-def draw(words: argparse.Namespace) -> None:
-    words.unit = printable(words.unit or ("units" if words.workflow else "entries"))
-    if words.tree:
-        words.draw(words, system_of_tree(words.tree))
-    elif words.workflow:
-        words.draw(words, system_of_workflow(words.workflow))
-    else:
-        words.draw(words)
-
-
 def main(words: Optional[list[str]] = None) -> int:
     """Draws what the words say, those of the command line if none are given."""
     parsed = parser_of_words().parse_args(words)
+    # Once the words are read: so help needs neither package nor library.
     try:
-        with pyplot.rc_context(STYLE):
-            draw(parsed)
-    except Refusal as refusal:
-        print(f"draw.py: {refusal}", file=sys.stderr)
-        return REFUSED
-    except OSError as fault:
-        told = (fault.strerror or "write fault").lower()
-        print(f"draw.py: {parsed.picture} cannot be written: {told}", file=sys.stderr)
-        return 1
-    finally:
-        pyplot.close("all")
-    return 0
+        import matplotlib
+    except ImportError:
+        sys.exit(
+            "draw.py: matplotlib is missing: apt-get install python3-matplotlib,"
+            " and use /usr/bin/python3"
+        )
+    try:
+        from drawing.drawn import drawn
+    except ImportError as lack:
+        sys.exit(f"draw.py: {str(lack).splitlines()[0]} (`make -C c` makes the library)")
+    return drawn(parsed)
 
 
 if __name__ == "__main__":

@@ -115,6 +115,10 @@ memplan plan: an order of least peak, its peak, and a certificate
 
 usage: memplan plan [--print text|json] (INPUT | --graph FILE [--order FILE]
 [--effort E])
+INPUT is TREE, or --workflow FILE
+TREE is --tree FILE, or MATRIX
+MATRIX is --matrix FILE, with at most one of --perm, --iperm and --ordering,
+and any of the others
 
   --tree FILE                a tree file: tasks of which each leaves one block
                              to its parent, as fronts do

@@ -42,9 +42,8 @@ INPUT_NAMES = {option.name for option in INPUT}
 
 
 def input_word(command: Command) -> str:
-    """INPUT, TREE or MATRIX, where the usage of the command begins with it, or with a choice of it and others; else nothing."""
-    first = command.usage.lstrip("(").split()[0]
-    return first if first in INPUTS else ""
+    """INPUT, TREE or MATRIX, where the usage of the command has it; else nothing."""
+    return next((word for word in re.findall("[A-Z]+", command.usage) if word in INPUTS), "")
 
 
 def own_options(command: Command) -> Iterator[Option]:

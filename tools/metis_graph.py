@@ -7,6 +7,7 @@ MATRIX is a file of Matrix Market in coordinate format. The graph has a vertex f
 first line has the numbers of both, and the line of row k behind it has the rows that are joined to k. `ndmetis GRAPH` writes GRAPH.iperm, the
 inverse of an order of elimination, which the program takes by `--iperm`.
 """
+import signal
 import sys
 from typing import List, TextIO
 
@@ -40,6 +41,7 @@ def main() -> int:
         why = getattr(error, "strerror", "") or str(error) or "it is cut off"
         print(f"metis_graph.py: {sys.argv[1]} cannot be read: {why}", file=sys.stderr)
         return 1
+    signal.signal(signal.SIGPIPE, signal.SIG_DFL)  # where nobody reads on, as behind `| head`, it ends without a word
     print(len(neighbours), sum(map(len, neighbours)) // 2)
     for joined in neighbours:
         print(*joined)

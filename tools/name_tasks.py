@@ -13,6 +13,7 @@ Numbers of tasks without a name stay, and so does what is no number of a task: t
 line, on standard error or in JSON is left as it is.
 """
 import re
+import signal
 import sys
 from collections.abc import Iterator
 from typing import Callable
@@ -104,6 +105,7 @@ def main() -> int:
     except OSError as error:
         print(f"name_tasks.py: {sys.argv[1]}: {error.strerror}", file=sys.stderr)
         return 1
+    signal.signal(signal.SIGPIPE, signal.SIG_DFL)  # where nobody reads on, as behind `| head`, it ends without a word
     sys.stdout.writelines(f"{line}\n" for line in named(names, sys.stdin.read()))
     return 0
 

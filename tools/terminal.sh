@@ -227,8 +227,12 @@ say_usage() {
     local word
     case ${1:-} in
         "" | help | --help | -h)
-            is_among "${2:-}" $commands || set -- ""
-            print_help "${2:-}"
+            if [ $# -lt 2 ] || is_among "$2" $commands; then
+                print_help "${2:-}"
+            else
+                print_help ""
+                say "there is no command $2$(nearest "" "$2" $commands)"
+            fi
             return
             ;;
         version | --version | -V)
@@ -282,6 +286,7 @@ say_refusal() { # SECONDS WORDS..
     local line=
     if [ "$1" -lt $SOON ]; then
         line=$("$program" "${@:2}" 2>/dev/null | head -n 1)
+        case $line in refused\ * | no\ *) ;; *) line= ;; esac
     fi
     if [ "$is_shown" = no ]; then
         say "refused, status $status; in place of a report there is the line: ${line:-its first one says why}"

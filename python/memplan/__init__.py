@@ -344,8 +344,11 @@ def _loaded(loader: Type[ctypes.CDLL], calls: Dict[str, _Signature]) -> ctypes.C
             call = getattr(library, "memplan_" + name)
             call.restype = result
             call.argtypes = arguments
-    except (OSError, AttributeError) as error:
+    except OSError as error:
         raise ImportError(_HOW_TO_LOAD.format(error), name="memplan", path=path) from error
+    except AttributeError as error:
+        older = f"{error}; the library is older than this package"
+        raise ImportError(_HOW_TO_LOAD.format(older), name="memplan", path=path) from error
     return library
 
 

@@ -43,12 +43,14 @@ class Box(NamedTuple):
 
 
 class Line(NamedTuple):
-    """From the box above to the one below, by their places: what is told on it, and how much it is of the greatest."""
+    """From the box above to the one below, by their places: what is told on it, and how much it is of the greatest. ``through`` has where
+    it passes the rows between them; it is None where the line goes down and aside at right angles."""
 
     above: int
     below: int
     label: str
     share: float
+    through: Optional[Sequence[float]] = None
 
 
 class Picture(NamedTuple):
@@ -123,9 +125,12 @@ def draw_line(axes: Axes, picture: Picture, tops: Sequence[float], line: Line, s
     start = MARGIN + picture.middles[line.above], tops[line.above] + high(picture.boxes[line.above])
     end = MARGIN + picture.middles[line.below], tops[line.below]
     label_at = end[1] - 9
-    is_near = picture.rows[line.below] == picture.rows[line.above] + 1
     turn = tops[line.below] - 20
-    xs, ys = ([start[0], start[0], end[0], end[0]], [start[1], turn, turn, end[1]]) if is_near else ([start[0], end[0]], [start[1], end[1]])
+    between = [(start[0], turn), (end[0], turn)]
+    if line.through is not None:
+        top, foot = tops[line.above], start[1]
+        between = [(MARGIN + x, y + ROW * row) for row, x in enumerate(line.through, 1) for y in (top, foot)]
+    xs, ys = zip(start, *between, end)
     axes.plot(xs, ys, color=SKY, linewidth=(0.8 + 4 * line.share) * scale, solid_joinstyle="miter", zorder=1)
     if line.label:
         axes.text(end[0], label_at, line.label, **look, color=BLUE, bbox=BLANK, zorder=2)
@@ -263,29 +268,42 @@ def picture_of_graph(
     least, greatest = (int(choose(needs, default=0)) for choose in (min, max))
     widest = max([1, *arcs.values()])
     boxes = [Box([shortened(name), grouped(need)], (int(need) - least) / max(1, greatest - least)) for name, need in zip(names, needs)]
-    lines = [Line(maker - 1, reader - 1, "", size / widest) for (maker, reader), size in arcs.items()]
     rows: List[List[int]] = [[] for _ in range(max(levels, default=-1) + 1)]
     for task, level in enumerate(levels):
         rows[level].append(task)
-    order_rows(rows, lines)
-    widths = [width_of_box(box, "") for box in boxes]
+    # a line that passes rows has a place of its own in each of them, as a task has
+    ways: List[List[int]] = []
+    count = len(boxes)
+    for maker, reader in arcs:
+        passed = range(levels[maker - 1] + 1, levels[reader - 1])
+        ways.append([maker - 1, *range(count, count + len(passed)), reader - 1])
+        for place, level in enumerate(passed, count):
+            rows[level].append(place)
+        count += len(passed)
+    order_rows(rows, ways)
+    widths = [width_of_box(box, "") for box in boxes] + [GAP] * (count - len(boxes))
     wide = [sum(widths[task] + 2 * GAP for task in row) - 2 * GAP for row in rows]
     whole = max([NARROWEST, *wide])
-    middles = [0.0] * len(boxes)
+    middles = [0.0] * count
     for row, width in zip(rows, wide):
         left = (whole - width) / 2
         for task in row:
             middles[task] = left + widths[task] / 2
             left += widths[task] + 2 * GAP
-    return Picture(boxes, lines, middles, list(levels), whole)
+    lines = [
+        Line(maker - 1, reader - 1, "", size / widest, [middles[place] for place in way[1:-1]])
+        for ((maker, reader), size), way in zip(arcs.items(), ways)
+    ]
+    return Picture(boxes, lines, middles[: len(boxes)], list(levels), whole)
 
 
-def order_rows(rows: List[List[int]], lines: Sequence[Line]) -> None:
-    """Each task near the middle of those that it reads from, and then of those that read from it: a few sweeps."""
+def order_rows(rows: List[List[int]], ways: Sequence[Sequence[int]]) -> None:
+    """Each place of a row near the middle of those above that lines lead from to it, and then of those below: a few sweeps."""
     near: Tuple[Dict[int, List[int]], Dict[int, List[int]]] = ({}, {})
-    for line in lines:
-        near[0].setdefault(line.below, []).append(line.above)
-        near[1].setdefault(line.above, []).append(line.below)
+    for way in ways:
+        for above, below in zip(way, way[1:]):
+            near[0].setdefault(below, []).append(above)
+            near[1].setdefault(above, []).append(below)
     place = {task: at / max(1, len(row)) for row in rows for at, task in enumerate(row)}
     for sweep in range(8):
         beside = near[sweep % 2]

@@ -30,6 +30,12 @@ MOST_LETTERS = 14
 LETTER = 5.2
 """How wide a letter of size 8 is, in points, or a little less."""
 
+MARK = 7.0
+"""How wide the mark of a peak is, in points."""
+
+HELD, NEEDED = 0.55, 0.8
+"""How dark a peak is, of 1, where what is there before is drawn, and what the task needs beside that."""
+
 HEADROOM = 1.3
 """How far an axis of memory goes past what it shows: there the legend stands."""
 
@@ -120,15 +126,22 @@ def darker(colour: str, by: float = 0.55) -> Tuple[float, ...]:
     return tuple(by * part for part in to_rgb(colour))
 
 
-def draw_peak(axes: Axes, steps: Steps, colour: str, label: str = "peak") -> None:
-    """The first step of the greatest level, dark, with an edge, so that it is seen however narrow it is; and a mark above it."""
+def draw_peak(axes: Axes, steps: Steps, colour: str, label: str = "peak", held: Optional[int] = None) -> None:
+    """The first step of the greatest level, dark, with an edge, so that it is seen however narrow it is; and a mark above it. ``held`` is
+    how much of it there is before the step, which is darker than what it needs."""
     at = int(numpy.argmax(steps.levels))
     start, end = map(float, steps.times[at : at + 2])
     peak = float(steps.levels[at])
-    axes.add_patch(Rectangle((start, 0), end - start, peak, facecolor=darker(colour), edgecolor=darker(colour), linewidth=1.2))
-    look = {"linestyle": "", "color": darker(colour), "markersize": 5, "label": f"{label} {grouped(peak)}"}
-    # the mark stands upon the peak, inside the room that is left for the legend
-    axes.plot([(start + end) / 2], [peak], marker=matplotlib.markers.CARETDOWNBASE, **look)
+    low = peak if held is None else float(held)
+    for foot, top, dark in ((0.0, low, HELD), (low, peak, NEEDED)):
+        if top > foot:
+            axes.add_patch(Rectangle((start, foot), end - start, top - foot, facecolor=darker(colour, dark), linewidth=0))
+    axes.add_patch(Rectangle((start, 0), end - start, peak, fill=False, edgecolor=darker(colour), linewidth=1.2))
+    # the mark stands upon the peak, inside the room that is left for the legend, and not half beyond an end of the axes
+    aside = MARK * float(steps.times[-1] - steps.times[0]) / width_of(axes)
+    place = min(max((start + end) / 2, float(steps.times[0]) + aside), float(steps.times[-1]) - aside)
+    look = {"linestyle": "", "color": darker(colour), "markersize": MARK, "markeredgewidth": 0, "label": f"{label} {grouped(peak)}"}
+    axes.plot([place], [peak], marker=matplotlib.markers.CARETDOWN, **look)
 
 
 def draw_names(axes: Axes, names: Sequence[Any], times: Array, dark: int) -> None:

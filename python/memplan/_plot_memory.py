@@ -45,7 +45,7 @@ class Panel:
         draw_levels(axes, during, color=colour, alpha=0.3, label="while a task runs")
         draw_levels(axes, Steps(times, course.between[:-1]), color=colour, alpha=0.65, label="between tasks")
         if len(course.tasks):
-            draw_peak(axes, during, colour)
+            draw_peak(axes, during, colour, held=int(course.between[int(numpy.argmax(course.during))]))
         axes.set_xlim(0, max(1, times[-1]))
         self.rise_to(course.peak)
 

@@ -43,7 +43,7 @@ else:
 TOP = Path(__file__).resolve().parents[2]
 NAMES = ["_refusals", "_texts", "_work", "admission", "graphs", "results", "threads", "trees", "workflows"]
 NAMES += ["plot"] if matplotlib else []
-NAMES += ["dask.runner", "dask.tasks"] if distributed else []
+NAMES += ["dask.runner", "dask.sizes", "dask.summary", "dask.tasks"] if distributed else []
 MODULES = ["memplan", *(f"memplan.{name}" for name in NAMES)]
 CLASSES = [memplan.Tree, memplan.Graph, memplan.Workflow, memplan.Plan, memplan.Fences, memplan.Simulation, memplan.Segments, memplan.Core]
 CALLS = ["plan", "best_postorder", "replay", "certify", "check", "spill", "fronts", "replay_system", "replay_shared", "plan_shared"]
@@ -86,7 +86,7 @@ class Examples(unittest.TestCase):
         for name in CALLS:
             self.assertIn(">>> ", getattr(memplan, name).__doc__, name)
         if distributed is not None:
-            for name in ("least_bound", "run", "of_collection", "of_graph", "dask_order"):
+            for name in ("least_bound", "plan", "record", "run", "of_collection", "of_graph", "dask_order"):
                 self.assertIn(">>> ", getattr(importlib.import_module("memplan.dask"), name).__doc__, name)
         if matplotlib is not None:
             for name in plot.__all__:

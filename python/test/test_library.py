@@ -30,6 +30,16 @@ class Library(unittest.TestCase):
     def test_a_library_without_the_calls(self) -> None:
         self.check(error_of_import("libc.so.6"), "AttributeError: ", "")
 
+    def test_no_dask(self) -> None:
+        for name in ("dask", "distributed"):
+            lines = f"import sys; sys.modules['{name}'] = None; import memplan.dask"
+            done = subprocess.run([sys.executable, "-c", lines], stderr=subprocess.PIPE, text=True)
+            last = done.stderr.splitlines()[-1]
+            self.assertTrue(last.startswith("ImportError: memplan.dask needs Dask"), done.stderr)
+            self.assertIn("memplan[dask]", last)
+            self.assertIn("python3-distributed", last)
+            self.assertNotIn("ModuleNotFoundError", done.stderr)
+
 
 if __name__ == "__main__":
     unittest.main()

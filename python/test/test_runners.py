@@ -67,7 +67,7 @@ class OldNames(unittest.TestCase):
         except ImportError:
             self.skipTest("there is no distributed")
         self.assertIs(importlib.import_module("memplan_dask"), runner)
-        for name in ("errors", "inside", "placement", "remote", "runner", "tasks", "versions"):
+        for name in ("errors", "inside", "placement", "remote", "runner", "sizes", "structure", "summary", "tasks", "versions"):
             self.assertIs(importlib.import_module(f"memplan_dask.{name}"), importlib.import_module(f"memplan.dask.{name}"))
 
 

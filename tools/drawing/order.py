@@ -39,8 +39,9 @@ def order_of_report(text: Text) -> Order:
     """The order of a plan or of a report of `post`, which begin with a line of their own."""
     head = text.row(0)
     is_plan = head in ([b"plan", b"1"], [b"plan", b"2"])
+    is_of_graph = head == [b"plan", b"3"]
     is_post = len(head) == 2 and head[0] == b"peak" and head[1].isdigit()
-    if not is_plan and not is_post:
+    if not is_plan and not is_of_graph and not is_post:
         text.refuse(0, ORDER)
     count = text.expect_word(1, "order", "'order' and the number of tasks")
     if count > TASK_LIMIT:
@@ -52,6 +53,10 @@ def order_of_report(text: Text) -> Order:
             row += 1 + text.expect_word(row, "priority", "'priority' and a number")
         text.expect_word(row, "peak", "'peak' and a number")
         row += 2 + text.expect_word(row + 1, "claims", "'claims' and a number")
+    if is_of_graph:
+        text.expect_word(row, "peak", "'peak' and a number")
+        text.expect_word(row + 1, "bound", "'bound' and a number")
+        row = text.count - 1  # what stands between is evidence, and `check` judges it
     text.expect_end(min(row, text.count))
     return Order(text.name, numbers, text.lines[text.firsts[2 : 2 + count]])
 

@@ -3,9 +3,12 @@
 import json
 import re
 from itertools import dropwhile, islice, takewhile
-from typing import Dict, Iterator, List, NamedTuple, Tuple
+from typing import Dict, Iterator, List, NamedTuple, Optional, Set, Tuple
+
+from commands import COMMANDS
 
 WIDTH = 100  # of a line that is shown
+Row = Tuple[int, List[str]]  # the number of a line, and its tokens
 KINDS = ("tree", "workflow", "graph", "matrix", "perm", "iperm", "order", "plan", "fences", "priority")
 FORMS = {
     "tree": "a tree file has the lines `tree 1`, `nodes N`, N lines `parent out extra time` (`tree 2`: `parent out extra share time`), and `end`",
@@ -15,7 +18,7 @@ FORMS = {
     "perm": "a permutation file has each row from 1 on once, the first one to go first",
     "iperm": "a file of an inverse has the place of each row, row 1 first, each place once: from 0 on where a 0 stands in it, else from 1 on; or it is what Scotch's gord writes",
     "order": "an order file has the numbers of the tasks, in order, and nothing else; or it is what `post` prints: `peak P`, `order N`, N tasks, and `end`",
-    "plan": "a plan file has the lines `plan 1`, `order N`, N tasks, `peak P`, `claims C`, C claims, and `end`",
+    "plan": "a plan file has the lines `plan 1`, `order N`, N tasks, `peak P`, `claims C`, C claims, and `end` (`plan 3`, of a task graph: behind the peak `bound L`, its evidence, and `end`)",
     "fences": "a fence file has the lines `fences 1`, `bound B`, `workers W`, `room L`, `joins J`, J places, `fences K`, K lines `FROM TO`, `amounts N`, N amounts, and `end`",
     "priority": "a priority file has each task from 1 on once, the first one to be preferred",
 }
@@ -92,6 +95,11 @@ class File:
         rows = list(self.rows())
         return len(rows) > 1 and rows[0][1] == [str(len(rows) - 1)] and all(len(tokens) == 2 for _, tokens in rows[1:])
 
+    def row_behind(self, word: str, place: int = 0) -> Optional[Row]:
+        """The row below the first one that begins with a word, or so many rows behind it; None where there is none."""
+        below = islice(self.rows(), 1, None)
+        return next(islice(dropwhile(lambda row: row[1][0] != word, below), place, None), None)
+
     def stated(self, word: str) -> int:
         """The number behind a word, as in `nodes 5`."""
         return next(int(tokens[1]) for _, tokens in self.rows() if tokens[0] == word and len(tokens) == 2)
@@ -111,8 +119,13 @@ class File:
 
     def line_of_item(self, item: int) -> int:
         """The number of the line of an item of a graph file of version 2; 0 without it."""
-        rows = dropwhile(lambda row: row[1][0] != "items", self.rows())
-        return next((number for number, _ in islice(rows, item, None)), 0)
+        row = self.row_behind("items", item)
+        return row[0] if row else 0
+
+    def uses(self) -> int:
+        """How many uses the items of a graph file have: an item has one of each of its readers, and one where nobody reads it."""
+        ends = [tokens for _, tokens in dropwhile(lambda row: row[1][0] != self.section(), self.rows()) if is_number(tokens[0])]
+        return len(ends) if self.section() == "arcs" else sum(max(1, len(tokens) - 2) for tokens in ends)
 
     def place(self, number: int) -> str:
         count = sum(1 for _ in self.lines())
@@ -123,15 +136,21 @@ class File:
 
 
 class Case(NamedTuple):
-    """A refusal of a file: where, and all files that are there."""
+    """A refusal of a file: where, all files that are there, and the command that refused it, if that is known."""
 
     file: File
     line: int
     files: Dict[str, File]
+    command: str = ""
 
     @property
     def tokens(self) -> List[str]:
         return self.file.tokens(self.line)
+
+
+def options_of(command: str) -> Set[str]:
+    """The options that a command takes; none where no command is known."""
+    return {option.name for it in COMMANDS if it.name == command for option in it.options}
 
 
 def is_number(token: str) -> bool:
@@ -162,7 +181,17 @@ def wrong_token(token: str) -> str:
     return f"`{token}` is no number"
 
 
-def foreign(file: File, line: int) -> str:
+def where_given(kind: str, command: str, given: str) -> str:
+    """What to do with a file of this kind, which was given to a command as another one."""
+    takes = options_of(command)
+    if kind in takes or not takes:
+        return f"which is given by `--{kind}`."
+    if (kind, given) == ("plan", "order"):
+        return f"and `{command}` takes an order alone: the numbers between its lines `order N` and `peak P`."
+    return f"which `{command}` does not take."
+
+
+def foreign(file: File, line: int, command: str = "") -> str:
     """What a file is, where it is none of its kind; nothing where it seems to be one."""
     if not file.head.strip():
         return f"{file.name} is empty."
@@ -179,7 +208,7 @@ def foreign(file: File, line: int) -> str:
             continue
         option = OTHER_FILES.get(word, file.kind)
         if option != file.kind:
-            return f"{file.name} is a {option} file, which is given by `--{option}`."
+            return f"{file.name} is a {option} file, {where_given(option, command, file.kind)}"
         if word in OTHER_TEXTS:
             return f"{file.name} {OTHER_TEXTS[word]}"
     return ""

@@ -1,6 +1,7 @@
 """What is wrong with a file that is not of its format."""
 
-from typing import Callable, Dict, List
+from itertools import dropwhile, takewhile
+from typing import Callable, Dict, List, Tuple
 
 from explaining.files import Case, File, foreign, form_of, is_number, many, wrong_token
 
@@ -49,14 +50,19 @@ def plan_number(case: Case) -> str:
 
 def graph_number(case: Case) -> str:
     section = case.file.section()
+    if wrong := odd_section(case):
+        return wrong
+    if case.tokens[0] == section and counted(case.file, "tasks")[0] < case.file.stated("tasks"):
+        found, stated = counted(case.file, "tasks")
+        return f"There is `tasks {stated}` above, and the file has {many(found, 'line')} for tasks: is that the right number?"
     if case.tokens[0] in ("tasks", section):
         return numbers(case, "N", case.tokens[1:])
     begins = [number for number, tokens in case.file.rows() if tokens[0] == section]
     if not begins or case.line < begins[0]:
         return numbers(case, "extra share time", case.tokens, True)
     if case.tokens == ["end"]:
-        found = sum(number > begins[0] for number, _ in case.file.rows()) - 1
-        return f"`end` comes after {many(found, section[:-1])}, and there is `{section} {case.file.stated(section)}` above: is that the right number?"
+        found, stated = counted(case.file, section)
+        return f"`end` comes after {many(found, section[:-1])}, and there is `{section} {stated}` above: is that the right number?"
     if section == "arcs":
         return numbers(case, "from to size", case.tokens)
     if len(case.tokens) == 1:
@@ -65,6 +71,34 @@ def graph_number(case: Case) -> str:
 
 
 # ---- trees and graphs
+
+
+def counted(file: File, word: str) -> Tuple[int, int]:
+    """How many lines of numbers stand behind a line such as `items 11`, and how many it states."""
+    rows = dropwhile(lambda row: row[1][0] != word, file.rows())
+    next(rows)
+    return sum(1 for _ in takewhile(lambda row: row[1][0] not in ("arcs", "items", "end"), rows)), file.stated(word)
+
+
+def odd_section(case: Case) -> str:
+    """What is said where a graph file of one version has the section of the other; nothing where the line has no such word."""
+    version, section, other = ("2", "items", "arcs") if case.file.section() == "items" else ("1", "arcs", "items")
+    if case.tokens[:1] != [other]:
+        return ""
+    return f"Line 1 says `graph {version}`, whose section is `{section} M`; `{other}` is that of `graph {3 - int(version)}`."
+
+
+def graph_section(case: Case) -> str:
+    if wrong := odd_section(case):
+        return wrong
+    section = case.file.section()
+    begins = case.file.row_behind(section)
+    word = section if begins and case.line > begins[0] else "tasks"
+    found, stated = counted(case.file, word) if case.file.row_behind(word) else (0, 0)
+    if found <= stated:
+        return SECTIONS.format("arcs M`, in version 2 `items M")
+    told = f"There is `{word} {stated}` above, and the file has {many(found, 'line')} for {word}"
+    return f"{told}: is that the right number?" if begins else f"{told}: was a line `{section} M` between them left out?"
 
 
 def tree_count(case: Case) -> str:
@@ -286,10 +320,16 @@ def fences_number(case: Case) -> str:
     return f"{wrong}." if wrong else "The place of a join is from 1, and the numbers of joins and fences are below 2^32."
 
 
+def plan_header(case: Case) -> str:
+    if "graph" in case.files:
+        return "`check --graph` takes plans of version 3, which have a bound, as `plan --graph` prints them."
+    return "Version 3 is that of a task graph: `check --graph FILE` takes it." if case.tokens[1] == "3" else VERSIONS
+
+
 def header(case: Case) -> str:
     kind = case.file.kind
     if len(case.tokens) == 2 and case.tokens[0] == kind:
-        return "There is version 1 of this format alone." if kind == "fences" else "There are the versions 1 and 2 of this format."
+        return "There is version 1 of this format alone." if kind == "fences" else plan_header(case) if kind == "plan" else VERSIONS
     first = next(case.file.rows(), (case.line, []))[0]
     if case.line != first:
         return f"This line is not `{SECOND_LINES[kind]}`."
@@ -299,6 +339,7 @@ def header(case: Case) -> str:
 # ---- what each refusal of a file's form means: a sentence, or what finds one
 
 COUNT_FROM_0 = "The parent of a root is 0, and nodes are numbered from 1: does the file count from 0?"
+VERSIONS = "There are the versions 1 and 2 of this format."
 NO_END = "The last line, `end`, is not there: was the file cut off?"
 TERMS = "A `task` takes two terms from the stack and `par K` takes K; each puts one there, and so does `data`."
 ONE_TERM = "At `end` there is more than one term, or none: a `par` is missing, or a task, which would join them."
@@ -319,7 +360,7 @@ MEANINGS: Dict[str, object] = {
     "workflow not-one-term": (ONE_TERM, TERMS),
     "workflow share": SHARES,
     "graph number": graph_number,
-    "graph section": SECTIONS.format("arcs M`, in version 2 `items M"),
+    "graph section": graph_section,
     "graph arc": (graph_arc, "Tasks are numbered from 1; 0 says that no task makes it, or takes it up."),
     "graph item": (
         graph_item,
@@ -367,7 +408,7 @@ for kind in ("perm", "priority"):
 
 def of_format(case: Case, word: str) -> List[str]:
     form = form_of(case.file.kind)
-    is_other = foreign(case.file, case.line)
+    is_other = foreign(case.file, case.line, case.command)
     if is_other:
         return [is_other, form]
     found = MEANINGS.get(f"{case.file.kind} {word}", (form,))

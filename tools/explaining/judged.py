@@ -1,8 +1,9 @@
 """What is said of limits that are passed, of bounds, and of orders and plans that are judged."""
 
-from typing import Dict, List, Optional
+from typing import Dict, List, Optional, Tuple
 
 from explaining.files import FORMS, File, is_number, many
+from explaining.objections import OF_PLAN
 
 LIMITS = {
     "bytes": 268_435_456,
@@ -48,12 +49,27 @@ def of_limit(kind: str, limit: str, files: Dict[str, File]) -> List[str]:
     return [*([files[kind].place(number)] if number else []), means, cause]
 
 
-def of_bound(words: List[str]) -> List[str]:
+def of_bound(words: List[str], command: str, files: Dict[str, File]) -> List[str]:
     if words[0] == "bound":
-        means = f"Within {words[1]} this order cannot run: its peak is {words[2]}."
-        return [means, f"Give --bound {words[2]} or more, or another order: that of `plan` has the least peak."]
+        return [*within(words[1], words[2], command, files)]
     means = f"The task at place {words[1]} of the order needs {words[2]} by itself, with what it takes up and what it makes."
     return [means, f"Whatever goes to disk, --bound has to be {words[2]} or more."]
+
+
+def within(bound: str, peak: str, command: str, files: Dict[str, File]) -> Tuple[str, str]:
+    """What is said where the peak of an order is above a bound; without a file of an order it is the order that `fence` planned."""
+    give = f"Give --bound {peak} or more"
+    if command == "fronts":
+        return f"Within {bound} the fronts cannot be made by their numbers: the peak of that order is {peak}.", f"{give}."
+    if "order" in files:
+        means = f"Within {bound} this order cannot run: its peak is {peak}."
+        if "graph" in files:
+            return means, f"{give}, or another order: `plan --graph FILE --order FILE` looks for one of a lower peak."
+        return means, f"{give}, or another order: that of `plan` has the least peak."
+    means = f"Within {bound} the order of the plan cannot run: its peak is {peak}."
+    if "plan" not in files:
+        means = f"Within {bound} the order that `{command or 'fence'}` planned cannot run: its peak is {peak}."
+    return means, f"{give}: no order that is known fits within {bound}. `spill` tells what must go to disk where there is no more memory."
 
 
 def of_graph(words: List[str], files: Dict[str, File]) -> List[str]:
@@ -94,6 +110,20 @@ def of_order(place: int, word: str, is_reduced: bool, files: Dict[str, File]) ->
     return said
 
 
+def of_another(files: Dict[str, File]) -> str:
+    """Where an order that does not fit may come from: of a matrix it has other fronts with other options."""
+    if "matrix" not in files:
+        return "is it the order of another input?"
+    file = files.get("plan")
+    count = f"the plan is one of {many(file.stated('order'), 'front')}; " if file and not file.is_json() else ""
+    options = "`--perm`, `--iperm`, `--ordering`, `--amalgamate`"
+    return f"{count}were the options of the matrix ({options}, ..) those of the run that made it?"
+
+
+def begun(sentence: str) -> str:
+    return sentence[:1].upper() + sentence[1:]
+
+
 def fault_of_order(place: int, word: str, files: Dict[str, File]) -> List[str]:
     file = files.get("order") or files.get("plan")
     tokens = list(file.numbered()) if file else []
@@ -101,14 +131,14 @@ def fault_of_order(place: int, word: str, files: Dict[str, File]) -> List[str]:
         missing = tasks_missing(files, [int(it) for _, it in tokens])
         which = f"task {missing[0]}" if missing else "a task"
         means = f"The order ends after {many(place - 1, 'place')}, and {which} is missing."
-        return [means, "Each task of the input stands in it once: is it the order of another input?"]
+        return [means, f"Each task of the input stands in it once: {of_another(files)}"]
     number, token = tokens[place - 1] if tokens else (0, "a number")
     where = [file.place(number)] if file and number else []
     before = [int(it) for _, it in tokens[: place - 1]]
     if word == "unknown":
         means = f"Place {place} of the order has {token}, and no task has this number: tasks are numbered from 1."
         counts_from_0 = any(it == "0" for _, it in tokens)
-        cause = "Does the order count from 0? Then add 1 to every number." if counts_from_0 else "Is it the order of another input?"
+        cause = "Does the order count from 0? Then add 1 to every number." if counts_from_0 else begun(of_another(files))
     elif word == "repeated":
         means, cause = f"Place {place} of the order has task {token}, which stood before.", "Each task stands in it once."
     else:
@@ -117,15 +147,21 @@ def fault_of_order(place: int, word: str, files: Dict[str, File]) -> List[str]:
         means = f"Place {place} of the order has task {token}, before a task whose data it takes up{waits}."
         is_tree = "tree" in files or "matrix" in files
         rule = "A node comes after its children." if is_tree else "A task comes after those that make what it reads."
-        cause = f"{rule} Is the order turned round, or that of another input?"
+        cause = f"{rule} {begun(of_another(files))}" if "matrix" in files else f"{rule} Is the order turned round, or that of another input?"
     return [*where, means, cause]
 
 
 def of_claim(words: List[str], files: Dict[str, File]) -> List[str]:
     other = "Was the plan changed, or made of another input, or with other options, as `--ordering` and `--inplace`?"
+    other = OF_PLAN if "graph" in files else other
     file = files.get("plan")
     if words[0] == "peak":
         return [f"The order of the plan has the peak {words[1]}, and the plan says {words[2]}.", other]
+    if words[0] == "root" and "graph" in files:
+        bound = (file.row_behind("bound") if file else None) or (0, [])
+        stated = f" {bound[1][1]}" if bound[0] else ""
+        means = f"The claims do not come to the bound{stated} that the plan states: none at position {words[1]}, the last one, has this bound less 1 or more."
+        return [*([file.place(bound[0])] if file and bound[0] else []), means, f"Was `bound` raised, or is a claim lost? {other}"]
     if words[0] == "root":
         means = f"No claim at position {words[1]}, the last one, has a bound of the peak less 1, so none says that the peak is least."
         return [means, f"The last claim is lost. {other}"]

@@ -30,9 +30,11 @@ except ImportError:
     print("not run: test_draw.py: matplotlib is missing", file=sys.stderr)
     sys.exit(0)
 
+import draw
+
 try:
-    import draw
-except SystemExit as lack:
+    from drawing import drawn
+except ImportError as lack:
     print(f"not run: test_draw.py: {lack}", file=sys.stderr)
     sys.exit(0)
 
@@ -74,7 +76,7 @@ class Drawing(unittest.TestCase):
     def figure(self, kind: str, words: list[str]) -> pyplot.Figure:
         """The same as matplotlib has it."""
         with pyplot.rc_context(STYLE):
-            draw.draw(draw.parser_of_words().parse_args([kind, str(self.folder / "x.png"), *words]))
+            drawn.draw(draw.parser_of_words().parse_args([kind, str(self.folder / "x.png"), *words]))
         return pyplot.gcf()
 
 
@@ -104,6 +106,85 @@ def spiked(count: int, at: int, height: int) -> str:
 
 def pixels_of(path: Path) -> np.ndarray:
     return np.rint(255 * image.imread(path)[:, :, :3]).astype(int)
+
+
+SHARED = EXAMPLES / "shared.graph"
+
+
+class Graphs(Drawing):
+    """Task graphs, of which an item may have several readers."""
+
+    def test_memory_by_hand(self) -> None:
+        # while task 1 runs there is what it makes, 10; then 10 and 2 for each of the three, 16 at the last; and 6 while task 5 reads
+        for orders in (["x=1..n"], [f"x={EXAMPLES / 'shared.plan'}"], [f"x={EXAMPLES / 'shared.order'}"]):
+            figure = self.figure("memory", ["--graph", str(SHARED), *orders])
+            axes = figure.axes[0]
+            self.assertEqual(axes.get_title(loc="left"), "x: peak 16 units")
+            during, between = (patch.get_data().values.tolist() for patch in axes.patches[:2])
+            self.assertEqual(during, [10, 12, 14, 16, 6])
+            self.assertEqual(between, [0, 10, 12, 14, 6])
+            self.assertEqual(figure._suptitle.get_text(), "memory over time: shared.graph, 5 tasks")
+
+    def test_a_run_and_version_1(self) -> None:
+        # task 1 makes 3, which the end keeps
+        events = "0 activate 1\n0 start 1\n2 finish 1\n"
+        report = self.file("x.run", f"makespan 2\nused 4\nbooked 4\nevents 3\n{events}end\n")
+        graph = self.file("x.graph", "graph 1\ntasks 1\n1 0 2\narcs 1\n1 0 3\nend\n")
+        figure = self.figure("run", ["--graph", graph, report])
+        self.assertEqual(figure.axes[1].get_title(loc="left"), "most used 4 · most booked 4 units")
+
+    def test_what_is_no_graph_is_refused(self) -> None:
+        head = "graph 2\ntasks 2\n0 0 1\n0 0 1\n"
+        for what, line, told in [
+            ("graph 3\n", 1, "whose first line is 'graph 1' or 'graph 2'"),
+            ("graph 2\ntasks 1\n0 0\n", 3, "extra share time"),
+            (f"{head}arcs 0\nend\n", 5, "'items' and a number"),
+            (f"{head}items 1\n3\nend\n", 6, "size from reader reader .."),
+            (f"{head}items 1\n3 1 x\nend\n", 6, "size from reader reader .."),
+            (f"{head}items 1\nend\n", 7, "the file ends here"),
+            (f"{head}items 1\n3 1\n3 1\nend\n", 7, "'end'"),
+        ]:
+            with self.subTest(what):
+                self.check_refused(what, f"x.graph, line {line}: expected ", told)
+        self.check_refused(f"{head}items 2\n3 1\n3 1 1\nend\n", "x.graph: expected a graph that memplan takes; item 2: ", "read by the task")
+
+    def check_refused(self, content: str, *told: str) -> None:
+        error = io.StringIO()
+        with contextlib.redirect_stderr(error):
+            words = ["memory", str(self.folder / "x.svg"), "--graph", self.file("x.graph", content), "1..n"]
+            self.assertEqual(draw.main(words), 3)
+        for word in told:
+            self.assertIn(word, error.getvalue())
+
+
+class Looks(Drawing):
+    """Titles, and the mark of a peak."""
+
+    def test_titles(self) -> None:
+        segments = self.file("x.segments", "segments 1\n1 F 0\n1 R 0\nend\n")
+        for kind, words in [("memory", ["--tree", FIVE, "1..n"]), ("fronts", [FIVE]), ("stairs", ["--number", "1", segments])]:
+            figure = self.figure(kind, ["--title", "My own $words$", *words])
+            axes = figure.axes[0]
+            self.assertIn("My own $words$", [axes.get_title(loc="left"), figure._suptitle.get_text() if figure._suptitle else ""])
+
+    def test_the_mark_of_a_peak_is_inside_the_axes_and_above_the_peak(self) -> None:
+        for at in (1, 2, 150, 299, 300):
+            tree = self.file("spiked.tree", spiked(300, at, 500))
+            figure = self.figure("memory", ["--tree", tree, "1..n"])
+            axes = figure.axes[0]
+            figure.canvas.draw()
+            (mark,) = (line for line in axes.lines if line.get_label().startswith("peak"))
+            box, inside = mark.get_window_extent(), axes.get_window_extent()
+            self.assertTrue(inside.x0 <= box.x0 and box.x1 <= inside.x1, (at, box, inside))
+            self.assertEqual((mark.get_ydata()[0], mark.get_marker()), (500, matplotlib.markers.CARETDOWN))
+
+    def test_what_a_peak_holds_is_darker_than_what_it_needs(self) -> None:
+        # before task 3 there are 5, and it needs 10 beside: with the edge three patches
+        axes = self.figure("memory", ["--tree", FIVE, "x=1..n"]).axes[0]
+        held, needed, edge = axes.patches[2:]
+        self.assertEqual([(it.get_y(), it.get_height()) for it in (held, needed, edge)], [(0, 5), (5, 10), (0, 15)])
+        self.assertLess(sum(held.get_facecolor()), sum(needed.get_facecolor()))
+        self.assertFalse(edge.get_fill())
 
 
 class BusyWorkers(Drawing):
@@ -422,7 +503,7 @@ class Refusals(Drawing):
         with contextlib.redirect_stdout(out), contextlib.redirect_stderr(err):
             status = draw.main([words[0], str(path), *words[1:]])
         said = err.getvalue()
-        self.assertEqual(status, draw.REFUSED, said)
+        self.assertEqual(status, drawn.REFUSED, said)
         self.assertEqual(out.getvalue(), "")
         self.assertEqual(said.count("\n"), 1, said)
         place = f"{name}, line {line}: " if line else f"{name}: "
@@ -597,6 +678,19 @@ class Refusals(Drawing):
         for it in told:
             self.assertIn(it, done.stderr)
 
+    def test_help_needs_neither_package_nor_library(self) -> None:
+        # -S and -I: no package of the system's is found
+        command = [sys.executable, "-I", "-S", str(TOOLS / "draw.py")]
+        away = {**os.environ, "MEMPLAN_LIBRARY": str(self.folder / "none.so")}
+        for words, told in (("--help",), "stairs"), (("memory", "--help"), "--by"):
+            done = subprocess.run([*command, *words], capture_output=True, text=True, env=away)
+            self.assertEqual((done.returncode, done.stderr), (0, ""))
+            self.assertIn(told, done.stdout)
+        words = ["fronts", str(self.folder / "never.svg"), FIVE]
+        done = subprocess.run([*command, *words], capture_output=True, text=True, env=away)
+        self.assertEqual((done.returncode, done.stdout), (1, ""))
+        self.assertIn("matplotlib is missing", done.stderr)
+
     def test_the_command_refuses_so_too(self) -> None:
         picture = str(self.folder / "never.svg")
         self.check_command(["fronts", picture, "nofile.tree"], 3, "nofile.tree: expected")
@@ -635,7 +729,7 @@ class OfTheProgram(Drawing):
         err = io.StringIO()
         with contextlib.redirect_stderr(err):
             status = draw.main(["run", str(self.folder / "x.svg"), "--tree", FIVE, report])
-        self.assertEqual(status, draw.REFUSED)
+        self.assertEqual(status, drawn.REFUSED)
         self.assertIn("a refusal of memplan: 'refused bound 1 11'", err.getvalue())
 
 

@@ -33,6 +33,7 @@ FAULTS = [
     (HEADER, r"MEMPLAN_KIND_SHARE = 18", "MEMPLAN_KIND_SHARE = 19", "SHARE is 19 and not 18"),
     (HEADER, r"enum memplan_kind \{", "enum memplan_fault_kind {", "faults in c/memplan.h: there is none"),
     ("python/memplan/__init__.py", r'\n    72: "[^\n]*', "", "72 is missing and not 72"),
+    ("fortran/memplan.f90", r"memplan_kind_row = 66", "memplan_kind_row = 67", "ROW is 67 and not 66"),
     (f"{CALLS}/specs/FaultKinds.antt", r"\nworking_set = 31", "\nworking_set = 32", "WORKING_SET is 32 and not 31"),
     (f"{CALLS}/specs/Faults.antt", r"kinds\.node_room", "kinds.room", "NODE_ROOM is missing and not there"),
 ]

@@ -86,6 +86,14 @@ class Names(unittest.TestCase):
         # by the page of formats: the order 4, 2, 1, 3 of the workflow is 1, 2, 3, 4 of the graph
         self.assertEqual(plan.splitlines()[2:6], ["fetch", "sort", "count", "report"])
 
+    def test_it_ends_quietly_where_nobody_reads_on(self) -> None:
+        with tempfile.TemporaryDirectory() as folder:
+            report = Path(folder) / "x.run"
+            report.write_text("0 start 1\n" * 200_000)
+            line = f'"{sys.executable}" "{TOOLS}/name_tasks.py" "{EXAMPLES}/branches.workflow" < "{report}" | head -n 1'
+            done = subprocess.run(["bash", "-c", line], capture_output=True, text=True, timeout=60)
+        self.assertEqual((done.stdout, done.stderr), ("0 start 1\n", ""))
+
 
 if __name__ == "__main__":
     unittest.main()

@@ -16,7 +16,7 @@ from typing import Dict, List, NamedTuple, Optional, Sequence, Tuple, Union
 sys.dont_write_bytecode = True
 from test_program import PROGRAM, ROOT, SYSTEM, Repository  # noqa: E402: so that nothing is written beside it
 
-SCRIPTS = ["tools/terminal.sh", "tools/help.sh", "tools/explain", *(f"tools/explaining/{it}.py" for it in ("__init__", "files", "formats", "judged")), "c/memplan.h"]
+SCRIPTS = ["tools/terminal.sh", "tools/help.sh", "tools/explain", "tools/commands.py", *(f"tools/explaining/{it}.py" for it in ("__init__", "files", "formats", "judged", "objections")), "c/memplan.h"]
 Text = Union[str, bytes]
 
 
@@ -102,6 +102,9 @@ WRONG: List[Tuple[str, List[str]]] = [
     ("-h", ["usage: memplan COMMAND OPTIONS"]),
     ("help", ["usage: memplan COMMAND OPTIONS"]),
     ("help plan", ["usage: memplan plan [--print text|json] (INPUT | --graph FILE [--order FILE]", "--ordering natural|mindeg", "certificate"]),
+    ("help plna", ["usage: memplan COMMAND OPTIONS", "memplan: there is no command plna; do you mean plan?"]),
+    ("help me", ["usage: memplan COMMAND OPTIONS", "memplan: there is no command me\n"]),
+    ("help plan", ["\nINPUT is TREE, or --workflow FILE\n", "\nTREE is --tree FILE, or MATRIX\n"]),
     ("plan --help", ["usage: memplan plan [--print text|json] (INPUT | --graph FILE [--order FILE]"]),
     (f"fronts {MATRIX} -h", ["usage: memplan fronts --matrix FILE", "--workers W"]),
     ("--version", ["memplan 1."]),
@@ -223,6 +226,7 @@ def alter(text: str, old: str, new: str) -> str:
 
 EXAMPLES = ("five.tree", "five.plan", "arrow.mtx", "branches.workflow", "four.graph", "shared.graph")
 FIVE, FIVE_PLAN, ARROW, BRANCHES, FOUR, SHARED = (example(it) for it in EXAMPLES)
+GRAPH_PLAN, FENCES = example("shared.plan"), example("five.fences")
 POST = "peak 15\norder 5\n1\n2\n3\n4\n5\nend\n"
 SCOTCH = "4\n1\t3\n2\t1\n3\t2\n4\t4\n"
 JSON = '{"claims":[],"order":[1],"peak":9}\n'
@@ -240,6 +244,7 @@ MEANT = {
     "order": f"replay {TREE} --order my.order",
     "plan": f"check {TREE} --plan my.plan",
     "priority": f"simulate {TREE} {ORDER} --bound 11 --workers 2 --priority my.priority",
+    "fences": f"check {TREE} --fences my.fences",
 }
 # What is broken, the kind of file, what it holds, what the program says, and which words say what is wrong.
 BROKEN: List[Tuple[str, str, Text, str, List[str]]] = [
@@ -265,7 +270,7 @@ BROKEN: List[Tuple[str, str, Text, str, List[str]]] = [
     ("four columns of tree 2", "tree", put(FIVE, 1, "tree 2"), "refused format tree number 3", ["Four are those of `tree 1`"]),
     ("the first line is forgotten", "tree", put(FIVE, 1), "refused format tree header 1", ["The first line, `tree 1`, is not there"]),
     ("tree 3", "tree", put(FIVE, 1, "tree 3"), "refused format tree header 1", ["the versions 1 and 2"]),
-    ("a plan", "tree", FIVE_PLAN, "refused format tree header 1", ["is a plan file, which is given by `--plan`"]),
+    ("a plan", "tree", FIVE_PLAN, "refused format tree header 1", ["is a plan file, which `plan` does not take"]),
     ("a matrix", "tree", ARROW, "refused format tree header 2", ["is a matrix file, which is given by `--matrix`"]),
     ("compressed", "tree", gzip.compress(FIVE.encode(), mtime=0), "refused format tree header 1", ["compressed by gzip", "`gunzip` it first"]),
     ("a byte order mark", "tree", b"\xef\xbb\xbf" + FIVE.encode(), "refused format tree header 1", ["byte order mark", "tail -c +4"]),
@@ -284,7 +289,7 @@ BROKEN: List[Tuple[str, str, Text, str, List[str]]] = [
     ("compressed", "matrix", gzip.compress(ARROW.encode(), mtime=0), "refused format matrix banner 1", ["`gunzip` it first"]),
     ("one percent sign", "matrix", ARROW[1:], "refused format matrix banner 1", ["two percent signs"]),
     ("no banner", "matrix", put(ARROW, 1), "refused format matrix banner 1", ["line 1: 4 4 3", "`%%MatrixMarket matrix coordinate pattern symmetric`"]),
-    ("a tree", "matrix", FIVE, "refused format matrix banner 1", ["is a tree file, which is given by `--tree`"]),
+    ("a tree", "matrix", FIVE, "refused format matrix banner 1", ["is a tree file, which `tree` does not take"]),
     ("a dense matrix", "matrix", alter(ARROW, "coordinate", "array"), "refused format matrix array-format 1", ["dense"]),
     ("a rectangle", "matrix", alter(ARROW, "4 4 3", "4 5 3"), "refused format matrix not-square 2", ["line 2: 4 5 3", "not square"]),
     ("symetric", "matrix", alter(ARROW, "symmetric", "symetric"), "refused format matrix symmetry 1", ["`symmetric`, `hermitian`"]),
@@ -356,9 +361,28 @@ BROKEN: List[Tuple[str, str, Text, str, List[str]]] = [
     ("an arc to itself", "graph", put(FOUR, 11, "3 3 2"), "refused format graph arc 11", ["from task 3 to itself"]),
     ("a ring", "graph", put(FOUR, 11, "4 1 2"), "refused format graph cycle 3", ["ring waits for the next one: 1, 4, 2, 1"]),
     ("names", "graph", put(FOUR, 8, "load sort 5"), "refused format graph number 8", ["`load` is no number"]),
-    ("a workflow", "graph", BRANCHES, "refused format graph header 1", ["is a workflow file, which is given by `--workflow`"]),
+    ("a workflow", "graph", BRANCHES, "refused format graph header 1", ["is a workflow file, which `reduce` does not take"]),
     ("version 3", "graph", put(FOUR, 1, "graph 3"), "refused format graph header 1", ["versions 1 and 2"]),
-    ("arcs in version 2", "graph", put(FOUR, 1, "graph 2"), "refused format graph section 7", ["in version 2 `items M`"]),
+    ("arcs in version 2", "graph", put(FOUR, 1, "graph 2"), "refused format graph section 7", ["Line 1 says `graph 2`, whose section is `items M`; `arcs` is that of `graph 1`"]),
+    ("items in version 1", "graph", put(SHARED, 2, "graph 1"), "refused format graph section 9", ["Line 1 says `graph 1`, whose section is `arcs M`; `items` is that of `graph 2`"]),
+    ("items 3 for 4", "graph", alter(SHARED, "items 4", "items 3"), "refused format graph section 13", ["line 13: 2 4 5", "`items 3` above, and the file has 4 lines for items: is that"]),
+    ("items 5 for 4", "graph", alter(SHARED, "items 4", "items 5"), "refused format graph number 14", ["`end` comes after 4 items, and there is `items 5`"]),
+    ("arcs 3 for 4", "graph", put(FOUR, 7, "arcs 3"), "refused format graph section 11", ["`arcs 3` above, and the file has 4 lines for arcs: is that"]),
+    ("tasks 4 for 5", "graph", put(SHARED, 3, "tasks 4"), "refused format graph section 8", ["`tasks 4` above, and the file has 5 lines for tasks: is that"]),
+    ("tasks 6 for 5", "graph", put(SHARED, 3, "tasks 6"), "refused format graph number 9", ["`tasks 6` above, and the file has 5 lines for tasks: is that"]),
+    ("the line of items is gone", "graph", put(SHARED, 9), "refused format graph section 9", ["`tasks 5` above, and the file has 9 lines for tasks: was a line `items M` between them left out?"]),
+    ("version 3 for a tree", "plan", GRAPH_PLAN, "refused format plan header 3", ["Version 3 is that of a task graph"]),
+    ("a join", "fences", put(FENCES, 6, "joins 1", "1"), "no joins items", ["line 6: joins 1", "one for each item that several tasks read"]),
+    ("room for three", "fences", put(put(FENCES, 4, "workers 3"), 5, "room 6"), "no workers room", ["line 5: room 6", "more than the bound 16: 3 of them with 6 each"]),
+    ("a fence to task 6", "fences", put(FENCES, 8, "1 6"), "no fence 1 join", ["line 8: 1 6", "Fence 1 has a join wait", "there are 5 tasks"]),
+    ("a fence from task 6", "fences", put(FENCES, 8, "6 1"), "no fence 1 tasks", ["line 8: 6 1", "neither a task nor a join: there are 5 tasks, and joins: 0"]),
+    ("a fence to itself", "fences", put(FENCES, 8, "3 3"), "no fence 1 apart", ["line 8: 3 3", "wait for itself"]),
+    ("a fence turned round", "fences", put(FENCES, 8, "4 3"), "no fences cycle 3", ["line 7: fences 1", "task or join 3 waits for itself"]),
+    ("an amount is gone", "fences", alter(put(FENCES, 15), "amounts 6", "amounts 5"), "no amounts count", ["line 9: amounts 5", "The file has 5 amounts"]),
+    ("an amount of 4", "fences", put(FENCES, 11, "4"), "no amount 2 size", ["line 11: 4", "Amount 2, 4, is less than the size of its item"]),
+    ("an amount above 2^60", "fences", put(FENCES, 12, str(2**60 + 1)), "no amount 3 limit", ["line 12: 1152921504606846977", "above the limit `total`, which is 2^60"]),
+    ("amounts above 2^62", "fences", "".join(f"{it}\n" for it in [*FENCES.splitlines()[:9], *[2**60] * 4, 1, 0, "end"]), "no amounts total", ["line 9: amounts 6", "together are above 2^62"]),
+    ("a lower bound", "fences", put(FENCES, 3, "bound 15"), "no bound 16", ["line 3: bound 15", "The amounts certify 16, and the file says bound 15", "Was `bound` lowered"]),
     ("arcs 5 for 4", "graph", put(FOUR, 7, "arcs 5"), "refused format graph number 12", ["`end` comes after 4 arcs, and there is `arcs 5`"]),
 ]
 STATUS = {"refused format": 3, "refused limit": 4}
@@ -404,6 +428,15 @@ class Files(FilesTest):
         self.check(f"tree {MATRIX} --perm my.perm".split(), 3, "refused format perm count 3", "give the file by `--iperm`, as it is")
         self.assertEqual(self.run_bare(f"tree {MATRIX} --iperm my.perm".split()), taken)
 
+    def test_a_command_that_takes_no_plan_does_not_name_its_option(self) -> None:
+        shutil.copy(ROOT / "examples" / "shared.graph", self.where)
+        shutil.copy(ROOT / "examples" / "shared.plan", self.where)
+        words = "bound --graph shared.graph --order shared.plan".split()
+        rest = self.check(words, 3, "refused format order number 3", "`bound` takes an order alone", "between its lines `order N` and `peak P`")
+        self.assertNotIn("--plan", rest)
+        words = "post --tree shared.graph".split()
+        self.check(words, 3, "refused format tree header 2", "is a graph file, which `post` does not take")
+
     def test_orders_of_fronts_and_of_workflows(self) -> None:
         # by minimum degree rows 2 and 3 are fronts 1 and 2, whose parent is front 3
         self.write("my.order", "3\n1\n2\n")
@@ -422,7 +455,12 @@ class Files(FilesTest):
 
     def test_bounds_and_graphs_that_are_refused(self) -> None:
         run = f"{TREE} --order five.postorder --bound"
-        self.check(f"simulate {run} 11 --workers 2".split(), 5, "refused bound 11 15", "its peak is 15", "--bound 15 or more")
+        self.check(f"simulate {run} 11 --workers 2".split(), 5, "refused bound 11 15", "its peak is 15", "--bound 15 or more, or another order: that of `plan` has the least")
+        no_other = ("--bound 11 or more: no order that is known fits within 10. `spill` tells what must go to disk",)
+        rest = self.check(f"simulate {TREE} --plan five.plan --bound 10 --workers 2".split(), 5, "refused bound 10 11", "the order of the plan cannot run: its peak is 11", *no_other)
+        self.assertNotIn("another order", rest)
+        self.check(f"fence {TREE} --bound 10".split(), 5, "refused bound 10 11", "the order that `fence` planned cannot run: its peak is 11", *no_other)
+        self.check(f"fronts {MATRIX} --bound 1 --workers 1".split(), 5, "refused bound 1 4", "the fronts cannot be made by their numbers", "--bound 4 or more.")
         self.check(f"spill {run} 9".split(), 10, "refused working-set 1 10 9", "place 1 of the order needs 10 by itself", "10 or more")
         self.check("reduce --graph bridge.graph".split(), 9, "refused graph rest 7", "not series-parallel: 7 arcs are left", "`simulate` and `spill` take any graph")
 
@@ -448,10 +486,61 @@ class Files(FilesTest):
         self.write("my.order", "1 2 3 4\n")
         self.check(f"replay {run}".split(), 1, "no order 5 missing", "task 5 is missing")
         self.write("my.order", "1 2 3 4 5\n")
-        self.check(f"simulate {run} --bound 15 --workers 2".split(), 5, "refused bound 15 16", "its peak is 16", "--bound 16 or more")
+        self.check(f"simulate {run} --bound 15 --workers 2".split(), 5, "refused bound 15 16", "its peak is 16", "--bound 16 or more, or another order: `plan --graph FILE --order FILE`")
         self.check(f"spill {run} --bound 11".split(), 10, "refused working-set 2 12 11", "place 2 of the order needs 12 by itself", "12 or more")
         self.write("my.graph", put(SHARED, 10, "10 1 2 4 3"))
         self.check(f"spill {run} --bound 12".split(), 3, "refused format graph item 10", "The readers of an item rise")
+
+    def test_evidence_of_a_plan_of_a_graph(self) -> None:
+        """Of examples/shared.plan, in which the blockers stand on lines 17, 20 and 23, and its evidence begins at line 12; there are six uses."""
+        self.write("my.graph", SHARED)
+        claims = "plan 3\norder 5\n1\n2\n3\n4\n5\npeak 16\nbound 16\nclaims 0\nend\n"
+        for what, text, printed, added in [
+            ("a bound that was raised", alter(GRAPH_PLAN, "bound 16", "bound 17"), "no blocker 1 level", ["line 17: blocker 2 2", "does not show the bound 17", "come to less", "Was `bound` raised?"]),
+            ("a set without tasks", GRAPH_PLAN.split("last 3")[0] + "last 0\nbase 0\nend\n", "no set empty", ["line 12: last 0", "there is none in it"]),
+            ("a use too many", alter(GRAPH_PLAN, "6 2\n", "7 2\n"), "no set base", ["line 13: base 3", "that the graph has not: there are 6 uses"]),
+            ("no task", alter(GRAPH_PLAN, "blocker 4", "blocker 6"), "no blocker 3 task", ["line 23: blocker 6 2", "Blocker 3 is no task of the graph: there are 5 tasks"]),
+            ("a task again", alter(GRAPH_PLAN, "blocker 4", "blocker 3"), "no blocker 3 rising", ["line 23: blocker 3 2", "Blocker 3 does not come after the one before"]),
+            ("a use of a blocker", alter(GRAPH_PLAN, "6 0\n", "7 0\n"), "no blocker 3 amounts", ["line 23: blocker 4 2", "that the graph has not: there are 6 uses"]),
+            ("more than the size", alter(GRAPH_PLAN, "3 10\n", "3 11\n"), "no blocker 3 sizes", ["line 23: blocker 4 2", "more than its size together"]),
+            ("an end too low", alter(GRAPH_PLAN, "2 10\n", "2 9\n"), "no blocker 2 level", ["line 20: blocker 3 2", "does not show the bound 16"]),
+            ("no task 6", alter(claims, "claims 0", "need 6"), "no need task", ["line 10: need 6", "has no such task: there are 5 tasks"]),
+            ("a need too low", alter(claims, "claims 0", "need 2"), "no need low", ["line 10: need 2", "the bound 16: what task 2 reads and needs is less"]),
+            ("the start", alter(claims, "claims 0", "need 0"), "no need low", ["what is there before any task has run is less"]),
+            ("no states", alter(claims, "claims 0", "states 0"), "no states many", ["line 10: states 0", "More than 0 states were looked at"]),
+            ("an order", alter(alter(claims, "bound 16", "bound 17"), "claims 0", "states 99"), "no states order", ["line 10: states 99", "below the bound 17 was found", "Was `bound` raised?"]),
+            ("too many states", alter(claims, "claims 0", "states 4000000000"), "no states room", ["line 10: states 4000000000", "more memory than a check may"]),
+            ("another peak", alter(claims, "peak 16", "peak 15"), "no peak 16 15", ["has the peak 16, and the plan says 15", "made of another graph?"]),
+            ("a plan of a tree", FIVE_PLAN, "refused format plan header 1", ["`check --graph` takes plans of version 3"]),
+        ]:
+            with self.subTest(what):
+                self.write("my.plan", text)
+                rest = self.check("check --graph my.graph --plan my.plan".split(), 3 if "refused" in printed else 1, printed, *added)
+                self.assertNotIn("no refusal", rest)
+        # the tasks 1 and 2 read what is there at the start, and none comes after the other
+        self.write("my.graph", "graph 2\ntasks 2\n0 0 1\n0 0 1\nitems 1\n7 0 1 2\nend\n")
+        self.write("my.plan", "plan 3\norder 2\n1\n2\npeak 7\nbound 7\nclaims 0\nend\n")
+        self.check("check --graph my.graph --plan my.plan".split(), 1, "no term", "my.plan, line 7: claims 0", "`reduce --graph FILE` says why")
+        # a task that reads 4, makes 7 and needs 5 beside: the last of three positions
+        self.write("my.graph", "graph 2\ntasks 1\n5 0 1\nitems 2\n4 0 1\n7 1\nend\n")
+        self.write("my.plan", "plan 3\norder 1\n1\npeak 16\nbound 16\nclaims 1\n3 R 14 7\nend\n")
+        self.check("check --graph my.graph --plan my.plan".split(), 1, "no root 3", "my.plan, line 5: bound 16", "The claims do not come to the bound 16 that the plan states", "is a claim lost?")
+
+    def test_a_line_that_is_not_known_is_looked_up(self) -> None:
+        for words, added in (("no such objection 5", "docs/REPORTS.md, 'Reports and statuses', says what `no such objection 5` means."), ("refused anew", "says what `refused anew` means")):
+            said = subprocess.run([self.top / "tools/explain", *words.split()], capture_output=True, text=True, timeout=60)
+            self.assertEqual((said.returncode, said.stderr), (0, ""))
+            self.assertIn(added, said.stdout)
+
+    def test_an_order_of_other_options_of_a_matrix(self) -> None:
+        # by minimum degree there are three fronts, and without it one
+        self.write("my.plan", "plan 1\norder 3\n1\n2\n3\npeak 5\nclaims 0\nend\n")
+        asked = "were the options of the matrix (`--perm`, `--iperm`, `--ordering`, `--amalgamate`, ..) those of the run that made it?"
+        self.check(f"replay {MATRIX} --plan my.plan".split(), 1, "no order 2 unknown", f"The plan is one of 3 fronts; {asked}")
+        self.write("my.order", "1\n")
+        self.check(f"replay {MATRIX} --ordering mindeg --order my.order".split(), 1, "no order 2 missing", asked)
+        self.write("my.order", "3\n1\n2\n")
+        self.check(f"replay {MATRIX} --ordering mindeg --order my.order".split(), 1, "no order 1 too-early", f"A node comes after its children. {asked[0].upper()}{asked[1:]}")
 
     def test_files_that_cannot_be_read(self) -> None:
         fault = "memplan: read fault"
