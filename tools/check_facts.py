@@ -209,6 +209,7 @@ class Facts:
         yield HEADER, numbers_in(part_of(self.text(HEADER), "enum memplan_kind {", "};"), r"MEMPLAN_KIND_(\w+) = (\d+)"), kinds
         plain = {number: number for number in kinds.values()}
         yield PACKAGE, {number: number for number in self.literal(PACKAGE, "_KINDS")}, plain
+        yield FORTRAN, upper(numbers_in(self.text(FORTRAN), r"\bmemplan_kind_(\w+) = (\d+)$")), kinds
         specs = "crates/c_calls/specs/FaultKinds.antt"
         yield specs, upper(numbers_in(self.text(specs), r"^(\w+) = (\d+)$")), kinds
         # each kind is that of some refusal
