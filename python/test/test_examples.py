@@ -27,6 +27,10 @@ except ImportError:
     dask = distributed = None
 
 try:
+    import numpy
+except ImportError:
+    numpy = None
+try:
     import scipy.sparse
 except ImportError:
     scipy = None
@@ -69,6 +73,8 @@ class Examples(unittest.TestCase):
             self.skipTest("there is no networkx")
         if dask is None and "dask" in (test.docstring or ""):
             self.skipTest("there is no dask")
+        if numpy is None and "dask.array" in (test.docstring or ""):
+            self.skipTest("there is no numpy")
         if matplotlib is None and any(it in (test.docstring or "") for it in PICTURES):
             self.skipTest("there is no matplotlib")
         said: Any = []
