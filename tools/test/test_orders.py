@@ -148,7 +148,11 @@ class Orders(unittest.TestCase):
         self.assertRegex(done.stdout, r"[1-9][0-9]* passed, 0 failed\n$")
 
     def test_what_columns_prints_given_back(self) -> None:
-        done = ran(sys.executable, ROOT / "bench/columns.py", "--least", 4, PROGRAM, ROOT / "examples")
+        source = self.folder / "source"
+        source.mkdir()
+        for name in ("arrow.mtx", "grid.mtx"):
+            shutil.copy(ROOT / "examples" / name, source)
+        done = ran(sys.executable, ROOT / "bench/columns.py", "--least", 4, PROGRAM, source)
         self.assertEqual(done.returncode, 0, done.stdout)
         self.assertRegex(done.stdout, r"2 matrices\n[1-9][0-9]* passed, 0 failed\n$")
 
